@@ -1,11 +1,11 @@
 //! Checking texts: whether each is good.
-ghost use Rattle.std.specs.Prelude.{◌≡◌, ◌≤◌, ◌↔◌, IfOk, IsTrue, map, Ok};
+ghost use Rattle.std.specs.Prelude.{◌≡◌, ◌≤◌, ◌↔◌, ◌⊎◌, true, IsTrue, map, string_bytes};
 ghost use Rattle.graphql_texts.specs.checked.Good.{IsGoodText};
-ghost use Rattle.graphql_commands.specs.checked.Files.{IsBlank, IsGood, GiveGoodTexts};
+ghost use Rattle.graphql_commands.specs.checked.Files.{IsBlank, IsGood, IsGoodFile, GiveGoodTexts};
 ghost use Rattle.graphql_commands.specs.declared.check.Found.TheVariants.{Good};
 
-use crate::command::{Call, Format};
-use crate::output::shown_name;
+use crate::command::Call;
+use crate::output::{reported_name, shown_name};
 use crate::telling::Teller;
 use crate::texts::{Texts, Unread};
 use graphql_parser::Memory;
@@ -13,26 +13,10 @@ use graphql_parser::lexer::Tokens;
 use graphql_texts::check::error_of;
 use graphql_texts::errors::{Names, Source};
 use graphql_texts::language::read_as;
-use std::alloc::{AllocError, Global};
 use std::io::Write;
 
-/// How many files were good, refused, and without a text.
-#[derive(Clone, Copy)]
-pub struct Tally {
-    pub good: usize,
-    pub refused: usize,
-    pub unread: usize,
-}
-
-/// What was found of all files: the exit status, and how many there were.
-#[derive(Clone, Copy)]
-pub struct Outcome {
-    pub status: u8,
-    pub tally: Tally,
-}
-
 /// What was found of a file.
-#[derive(Clone, Copy, PartialEq, Eq)]
+#[derive(Clone, Copy)]
 pub enum Found {
     Good,
     Refused,
@@ -53,94 +37,85 @@ impl Found {
     }
 }
 
-/// Reads each of these files and checks it, one after another, and tells what is wrong with it: reports go to `err`, and
-/// what is for standard output is kept. No text is kept while the next one is read. The status is 0 only where each file
-/// has a text that is good, or a blank one where requests may hold fragments alone. An error says that memory was refused.
+/// Reads each of these files and checks it, one after another, and reports what is wrong with it. Reports go to `err` before the
+/// next file is read, and what is for standard output is kept. No text is kept while the next one is read. The status is 0 only
+/// where each file has a text that is good, or a blank one where requests may hold fragments alone; it is 2 where memory ran out.
 pub fn check_files<T: Texts, E: Write>(
     call: &Call<'_>,
-    files: &Vec<&str>,
+    files: &[String],
     texts: &mut T,
     teller: &mut Teller,
     err: &mut E,
-) -> Result<Outcome, AllocError>
-    ensures status { IfOk result (λ outcome. outcome.status ≤ 2) }
-    ensures good { IfOk result (λ outcome. outcome.status ≡ 0 →
+) -> u8
+    ensures status { result ≤ 2 }
+    ensures good { result ≡ 0 →
         GiveGoodTexts T.gives call.now.language call.now.takes_fragments call.now.limits texts.old
-        (map (λ name. name.now) files.now.items) texts.new) }
+        (map string_bytes files.now) texts.new }
 {
-    let mut tally = Tally {
-        good: 0,
-        refused: 0,
-        unread: 0,
-    };
     let mut worst: u8 = 0;
-    for name in files {
+    for file in files {
+        if teller.put_reports(err).is_err() {
+            return 2;
+        }
+        let name = file.as_str();
         let text = texts.text(teller.alloc, name);
-        let shown = shown_name(teller.alloc, name)?;
-        let found = check_text(call, name, shown.as_str(), &text, teller, err)?;
+        let found = check_text(call, name, &text, teller);
         worst = worst.max(found.status());
-        tally = counted(tally, found);
-        if found == Found::Good && call.is_verbose && teller.format == Format::Text {
-            writeln!(teller.lines, "{shown}: good")?;
+        if let Found::Good = found {
+            teller.tell_done(name, ": good\n", call.is_verbose);
         }
     }
-    Ok(Outcome {
-        status: worst,
-        tally,
-    })
+    worst
+}
+
+// What is found of the text of a file of this name, or of there being none.
+fn check_text(
+    call: &Call<'_>,
+    name: &str,
+    text: &Result<String, Unread>,
+    teller: &mut Teller,
+) -> Found
+    ensures { (result ≡ Good) →
+        IsGood call.now.language call.now.takes_fragments call.now.limits name.now text.now }
+{
+    match text {
+        Ok(text) => check_read(call, name, text.as_str(), teller),
+        Err(why) => {
+            teller.tell_unread(name, *why);
+            Found::Unread
+        }
+    }
+}
+
+// What is found of this text of a file of this name.
+fn check_read<'a>(call: &Call<'_>, name: &'a str, text: &'a str, teller: &mut Teller) -> Found
+    ensures { (result ≡ Good) →
+        IsGoodFile call.now.language call.now.takes_fragments call.now.limits name.now text.now
+        ⊎ ((call.now.takes_fragments ≡ true) × IsBlank text.now) }
+{
+    if call.takes_fragments && is_blank(text) {
+        return Found::Good;
+    }
+    let Ok(language) = read_as(teller.alloc, call.language, name, text) else {
+        return teller.run_out();
+    };
+    let Ok(shown) = shown_name(teller.alloc, name) else {
+        return teller.run_out();
+    };
+    let source = Source {
+        names: names_of(name, shown.as_str()),
+        language,
+        limits: call.limits,
+        text,
+    };
+    check_source(call, &source, teller)
 }
 
 /// The names of a file that a call names so, and that is shown so.
 pub fn names_of<'a>(name: &'a str, shown: &'a str) -> Names<'a> {
     Names {
         shown,
-        name: if name == "-" { shown } else { name },
-    }
-}
-
-fn counted(tally: Tally, found: Found) -> Tally {
-    let mut tally = tally;
-    let count = match found {
-        Found::Good => &mut tally.good,
-        Found::Refused => &mut tally.refused,
-        Found::Unread => &mut tally.unread,
-    };
-    *count = count.saturating_add(1);
-    tally
-}
-
-// What is found of the text of a file of this name that is shown so, or of there being none.
-fn check_text<E: Write>(
-    call: &Call<'_>,
-    name: &str,
-    shown: &str,
-    text: &Result<String, Unread>,
-    teller: &mut Teller,
-    err: &mut E,
-) -> Result<Found, AllocError>
-    ensures { (result ≡ Ok Good) →
-        IsGood call.now.language call.now.takes_fragments call.now.limits name.now text.now }
-{
-    let names = names_of(name, shown);
-    match text {
-        Err(why) => {
-            teller.tell_unread(names, *why, err)?;
-            Ok(Found::Unread)
-        }
-        Ok(text) => {
-            let text = text.as_str();
-            if call.takes_fragments && is_blank(text) {
-                return Ok(Found::Good);
-            }
-            let language = read_as(teller.alloc, call.language, name, text)?;
-            let source = Source {
-                names,
-                language,
-                limits: call.limits,
-                text,
-            };
-            check_source(call, &source, teller, err)
-        }
+        name: reported_name(name),
     }
 }
 
@@ -155,55 +130,24 @@ pub fn is_blank(text: &str) -> bool
     }
 }
 
-/// What is found of a text, and tells what is wrong with it. Where memory is refused, a budget stops the check of this text alone.
-pub fn check_source<E: Write>(
-    call: &Call<'_>,
-    source: &Source<'_>,
-    teller: &mut Teller,
-    err: &mut E,
-) -> Result<Found, AllocError>
-    ensures { (result ≡ Ok Good) →
+/// What is found of a text, after what is wrong with it is reported. Where memory is refused, a budget stops the check of this
+/// text alone.
+pub fn check_source(call: &Call<'_>, source: &Source<'_>, teller: &mut Teller) -> Found
+    ensures { (result ≡ Good) →
         IsGoodText call.now.takes_fragments source.now.language source.now.limits
         source.now.text.now }
 {
     let mut memory = Memory::with_budget(teller.alloc, call.memory.unwrap_or(usize::MAX));
     match error_of(&mut memory, source, call.takes_fragments) {
-        Ok(None) => Ok(Found::Good),
+        Ok(None) => Found::Good,
         Ok(Some(refused)) => {
-            teller.tell_all(source, refused, err)?;
-            Ok(Found::Refused)
+            teller.tell_mistakes(source, refused);
+            Found::Refused
         }
         Err(_) if call.memory.is_some() => {
-            teller.tell_unread(source.names, Unread::OverBudget, err)?;
-            Ok(Found::Unread)
+            teller.tell_unread(source.names.name, Unread::OverBudget);
+            Found::Unread
         }
-        Err(refused) => Err(refused),
+        Err(_) => teller.run_out(),
     }
-}
-
-/// Tells how many files there were, as `3 files: 1 good, 1 refused (2 findings), 1 not read`.
-pub fn tell_tally(teller: &mut Teller, tally: Tally) -> Result<(), AllocError> {
-    let Tally {
-        good,
-        refused,
-        unread,
-    } = tally;
-    let count = good.saturating_add(refused).saturating_add(unread);
-    let files = if count == 1 { "file" } else { "files" };
-    write!(teller.lines, "{count} {files}: {good} good")?;
-    push_refused(teller, refused)?;
-    if unread > 0 {
-        write!(teller.lines, ", {unread} not read")?;
-    }
-    teller.lines.push('\n')
-}
-
-/// Adds how many files were refused, if some were, and how many findings were told.
-pub fn push_refused(teller: &mut Teller, refused: usize) -> Result<(), AllocError> {
-    let findings = teller.findings;
-    if refused > 0 {
-        let word = if findings == 1 { "finding" } else { "findings" };
-        write!(teller.lines, ", {refused} refused ({findings} {word})")?;
-    }
-    Ok(())
 }

@@ -1,15 +1,15 @@
 //! What the program is asked for.
-ghost use Rattle.std.specs.Prelude.{◌≡◌, ◌≢◌, ℕ, List, ◌∷◌, false, Ok, None, IfOk, is_some, map, drop, string_bytes, Option as Opt};
+ghost use Rattle.std.specs.Prelude.{◌≡◌, ℕ, List, ◌∷◌, false, None, IfOk, OnOk, is_some, map, drop, string_bytes, Option as Opt};
 ghost use Rattle.graphql_commands.specs.checked.Options.{takes_value, said_after, language_of_options, is_server_option, are_server_options, asks_for_server};
 ghost use Rattle.graphql_report.specs.declared.fronts.Language.{Language as Lang};
 ghost use Rattle.graphql_commands.specs.inner.Words.{said_in_the_end};
 
 use graphql_parser::Limits;
 use graphql_report::{Language, Style};
-use std::alloc::{AllocError, Global};
+use std::alloc::Global;
 
 /// What is done with the texts.
-#[derive(Clone, Copy, PartialEq, Eq)]
+#[derive(Clone, Copy)]
 pub enum Command {
     /// `check`: what is wrong with each of them is reported.
     Check,
@@ -28,7 +28,7 @@ pub enum Command {
 }
 
 /// How findings are told.
-#[derive(Clone, Copy, PartialEq, Eq)]
+#[derive(Clone, Copy)]
 pub enum Format {
     /// `text`: a report each, for people.
     Text,
@@ -75,7 +75,7 @@ impl Call<'_> {
 }
 
 /// An option that a value follows.
-#[derive(Clone, Copy, PartialEq, Eq)]
+#[derive(Clone, Copy)]
 pub enum Valued {
     Limits,
     Memory,
@@ -83,13 +83,14 @@ pub enum Valued {
     Color,
 }
 
-/// What the arguments ask for.
-#[derive(Drop)]
-pub enum Asked<'a> {
-    Call(Call<'a>),
+/// What the arguments ask for, if it is no call.
+#[derive(Clone, Copy)]
+pub enum NoCall<'a> {
     Help,
     Version,
     Wrong(Wrong<'a>),
+    /// Memory was refused.
+    NoMemory,
 }
 
 /// What is wrong with the arguments.
@@ -114,29 +115,16 @@ pub enum Wrong<'a> {
     NotText,
 }
 
-/// What these arguments ask for: those after the program's name.
-pub fn command_of<'a>(alloc: Global, words: &'a [String]) -> Result<Asked<'a>, AllocError>
-    ensures { (call : _) → result ≡ Ok (Asked.Call call) →
-        call.language ≡ language_of_options false None (map string_bytes (drop 1 words.now)) }
+/// The call that these arguments ask for: those after the program's name.
+pub fn command_of<'a>(alloc: Global, words: &'a [String]) -> Result<Call<'a>, NoCall<'a>>
+    ensures { IfOk result (λ call.
+        call.language ≡ language_of_options false None (map string_bytes (drop 1 words.now))) }
 {
     let Some((first, words)) = words.split_first() else {
-        return Ok(Asked::Wrong(Wrong::NoCommand));
-    };
-    let command = match first.as_str() {
-        "check" => Command::Check,
-        "format" => Command::Format,
-        "minify" => Command::Minify,
-        "print" => Command::Print,
-        "tree" => Command::Tree,
-        "tokens" => Command::Tokens,
-        "lsp" => Command::Lsp,
-        "--help" | "-h" | "help" => return Ok(Asked::Help),
-        "--version" | "-V" => return Ok(Asked::Version),
-        other if is_option(other) => return Ok(Asked::Wrong(Wrong::UnknownOption(other))),
-        other => return Ok(Asked::Wrong(Wrong::UnknownCommand(other))),
+        return Err(NoCall::Wrong(Wrong::NoCommand));
     };
     let mut call = Call {
-        command,
+        command: command_named(first.as_str())?,
         files: Vec::new(alloc),
         language: None,
         limits: Limits::default(),
@@ -150,16 +138,25 @@ pub fn command_of<'a>(alloc: Global, words: &'a [String]) -> Result<Asked<'a>, A
         is_quiet: false,
         style: None,
     };
-    if let Some(other) = read_words(&mut call, words)? {
-        return Ok(other);
+    read_words(&mut call, words)?;
+    Ok(call)
+}
+
+// The command that the first word asks for.
+fn command_named(word: &str) -> Result<Command, NoCall<'_>> {
+    match word {
+        "check" => Ok(Command::Check),
+        "format" => Ok(Command::Format),
+        "minify" => Ok(Command::Minify),
+        "print" => Ok(Command::Print),
+        "tree" => Ok(Command::Tree),
+        "tokens" => Ok(Command::Tokens),
+        "lsp" => Ok(Command::Lsp),
+        "--help" | "-h" | "help" => Err(NoCall::Help),
+        "--version" | "-V" => Err(NoCall::Version),
+        other if is_option(other) => Err(NoCall::Wrong(Wrong::UnknownOption(other))),
+        other => Err(NoCall::Wrong(Wrong::UnknownCommand(other))),
     }
-    if let Some(wrong) = wrong_files(command, call.files.as_slice()) {
-        return Ok(Asked::Wrong(wrong));
-    }
-    if call.files.is_empty() {
-        call.files.push("-")?;
-    }
-    Ok(Asked::Call(call))
 }
 
 /// Whether these arguments, those after the program's name, ask for the language server: `lsp`, and no more than the options that
@@ -192,15 +189,15 @@ fn is_server_option(word: &str) -> bool
     word == "--stdio" || word.starts_with("--clientProcessId=")
 }
 
-// What is wrong with the number of files of this command, if something is.
-fn wrong_files<'a>(command: Command, files: &[&'a str]) -> Option<Wrong<'a>> {
-    if command == Command::Lsp {
-        return Some(Wrong::NoFile(files.first()?));
+// What is wrong with the number of files of a call, if something is.
+fn wrong_files<'a>(call: &Call<'a>) -> Option<Wrong<'a>> {
+    if let Command::Lsp = call.command {
+        return Some(Wrong::NoFile(call.files.first()?));
     }
-    let second = files.get(1)?;
-    match command {
+    let second = call.files.get(1)?;
+    match call.command {
         Command::Check | Command::Lsp => None,
-        Command::Format => files.contains(&"-").then_some(Wrong::NotAlone),
+        Command::Format => call.files.contains(&"-").then_some(Wrong::NotAlone),
         Command::Minify | Command::Print | Command::Tree | Command::Tokens => {
             Some(Wrong::SecondFile(second))
         }
@@ -215,7 +212,7 @@ fn is_option(word: &str) -> bool
 }
 
 // What the next word is.
-#[derive(Clone, Copy, PartialEq, Eq)]
+#[derive(Clone, Copy)]
 enum Next {
     Any,
     // The value of an option.
@@ -224,60 +221,68 @@ enum Next {
     File,
 }
 
-// Reads the words into the call. What is asked for in its place, where a word is wrong or asks for help.
-fn read_words<'a>(call: &mut Call<'a>, words: &'a [String]) -> Result<Option<Asked<'a>>, AllocError>
-    ensures other { (asked : _) → result ≢ Ok (Some (Asked.Call asked)) }
-    ensures language { (result ≡ Ok None) →
-        call.new.language ≡ language_of_options false call.old.language (map string_bytes words.now) }
+// Reads the words into the call, which reads standard input if they name no file.
+fn read_words<'a>(call: &mut Call<'a>, words: &'a [String]) -> Result<(), NoCall<'a>>
+    ensures { OnOk result (call.new.language
+        ≡ language_of_options false call.old.language (map string_bytes words.now)) }
 {
     let mut next = Next::Any;
     for word in words {
-        match read_word(call, next, word.as_str())? {
-            Ok(then) => next = then,
-            Err(other) => return Ok(Some(other)),
-        }
+        next = read_word(call, next, word.as_str())?;
     }
     if let Next::Value(option) = next {
-        return Ok(Some(Asked::Wrong(Wrong::NoValue(option))));
+        return Err(NoCall::Wrong(Wrong::NoValue(option)));
     }
-    Ok(None)
+    if let Some(wrong) = wrong_files(call) {
+        return Err(NoCall::Wrong(wrong));
+    }
+    if call.files.is_empty() {
+        push_file(call, "-")?;
+    }
+    Ok(())
 }
 
-// Reads a word into the call, and tells what the word after it is. What is asked for in its place, where the word is wrong or
-// asks for help.
-fn read_word<'a>(
-    call: &mut Call<'a>,
-    next: Next,
-    word: &'a str,
-) -> Result<Result<Next, Asked<'a>>, AllocError>
-    ensures other { (asked : _) → result ≢ Ok (Err (Asked.Call asked)) }
-    ensures language { (then : _) → (result ≡ Ok (Ok then)) → (words : List (List ℕ)) →
+fn push_file<'a>(call: &mut Call<'a>, name: &'a str) -> Result<(), NoCall<'a>>
+    ensures { call.new.language ≡ call.old.language }
+{
+    match call.files.push(name) {
+        Ok(()) => Ok(()),
+        Err(_) => Err(NoCall::NoMemory),
+    }
+}
+
+// Reads a word into the call, and returns what the word after it is.
+fn read_word<'a>(call: &mut Call<'a>, next: Next, word: &'a str) -> Result<Next, NoCall<'a>>
+    ensures { IfOk result (λ then. (words : List (List ℕ)) →
         said_in_the_end then call.new.language words
-        ≡ said_in_the_end next call.old.language (word.now ∷ words) }
+        ≡ said_in_the_end next call.old.language (word.now ∷ words)) }
 {
     match next {
-        Next::Value(option) => {
-            if read_value(call, option, word) {
-                Ok(Ok(Next::Any))
-            } else {
-                Ok(Err(Asked::Wrong(Wrong::WrongValue(option, word))))
-            }
-        }
+        Next::Value(option) if read_value(call, option, word) => Ok(Next::Any),
+        Next::Value(option) => Err(NoCall::Wrong(Wrong::WrongValue(option, word))),
         Next::Any if is_option(word) => match word {
-            "--" => Ok(Ok(Next::File)),
-            "--help" | "-h" => Ok(Err(Asked::Help)),
-            _ => match read_option(call, word) {
-                Ok(_) if !takes(call.command, word) => {
-                    Ok(Err(Asked::Wrong(Wrong::OtherOption(word))))
-                }
-                read => Ok(read.map_err(Asked::Wrong)),
-            },
+            "--" => Ok(Next::File),
+            "--help" | "-h" => Err(NoCall::Help),
+            _ => read_taken(call, word),
         },
         Next::Any | Next::File => {
-            call.files.push(word)?;
-            Ok(Ok(next))
+            push_file(call, word)?;
+            Ok(next)
         }
     }
+}
+
+// Reads an option into the call, if its command takes it.
+fn read_taken<'a>(call: &mut Call<'a>, word: &'a str) -> Result<Next, NoCall<'a>>
+    ensures { IfOk result (λ next. (words : List (List ℕ)) →
+        said_in_the_end next call.new.language words
+        ≡ language_of_options (takes_value word.now) (said_after call.old.language word.now) words) }
+{
+    let next = read_option(call, word)?;
+    if !takes(call.command, word) {
+        return Err(NoCall::Wrong(Wrong::OtherOption(word)));
+    }
+    Ok(next)
 }
 
 // Whether the command takes this option, which some command takes. Those that came first pass over what isn't theirs.
@@ -287,20 +292,20 @@ fn takes(command: Command, word: &str) -> bool {
         None => word,
     };
     match option {
-        "--stdio" | "--clientProcessId" => command == Command::Lsp,
-        _ if command == Command::Lsp => false,
+        "--stdio" | "--clientProcessId" => matches!(command, Command::Lsp),
+        _ if matches!(command, Command::Lsp) => false,
         "--query" | "--schema" | "--limits" | "--color" => true,
         "-v" | "--verbose" | "-q" | "--quiet" => {
             !matches!(command, Command::Minify | Command::Print)
         }
-        "--check" => command == Command::Format,
+        "--check" => matches!(command, Command::Format),
         "--no-ignore" => matches!(command, Command::Check | Command::Format),
         _ => !matches!(command, Command::Format | Command::Minify | Command::Print),
     }
 }
 
-// Reads an option into the call, and tells what the word after it is.
-fn read_option<'a>(call: &mut Call<'a>, word: &'a str) -> Result<Next, Wrong<'a>>
+// Reads an option into the call, and returns what the word after it is.
+fn read_option<'a>(call: &mut Call<'a>, word: &'a str) -> Result<Next, NoCall<'a>>
     ensures { IfOk result (λ next. (words : List (List ℕ)) →
         said_in_the_end next call.new.language words
         ≡ language_of_options (takes_value word.now) (said_after call.old.language word.now) words) }
@@ -323,7 +328,7 @@ fn read_option<'a>(call: &mut Call<'a>, word: &'a str) -> Result<Next, Wrong<'a>
 
 // Reads an option that has a value, which is the next word or stands after `=`. The process by which a server was started is
 // passed over.
-fn read_valued<'a>(call: &mut Call<'a>, word: &'a str) -> Result<Next, Wrong<'a>>
+fn read_valued<'a>(call: &mut Call<'a>, word: &'a str) -> Result<Next, NoCall<'a>>
     ensures language { call.new.language ≡ call.old.language }
     ensures next { IfOk result (λ next. (said : Opt Lang) (words : List (List ℕ)) →
         said_in_the_end next said words ≡ language_of_options (takes_value word.now) said words) }
@@ -331,15 +336,13 @@ fn read_valued<'a>(call: &mut Call<'a>, word: &'a str) -> Result<Next, Wrong<'a>
     if let Some(option) = option_named(word) {
         return Ok(Next::Value(option));
     }
-    let (option, value) = word.split_once('=').ok_or(Wrong::UnknownOption(word))?;
-    if option == "--clientProcessId" {
-        return Ok(Next::Any);
+    let (name, value) = word.split_once('=').unwrap_or((word, ""));
+    match option_named(name) {
+        Some(option) if read_value(call, option, value) => Ok(Next::Any),
+        Some(option) => Err(NoCall::Wrong(Wrong::WrongValue(option, value))),
+        None if word.starts_with("--clientProcessId=") => Ok(Next::Any),
+        None => Err(NoCall::Wrong(Wrong::UnknownOption(word))),
     }
-    let option = option_named(option).ok_or(Wrong::UnknownOption(word))?;
-    if !read_value(call, option, value) {
-        return Err(Wrong::WrongValue(option, value));
-    }
-    Ok(Next::Any)
 }
 
 // The option of this name that a value follows.

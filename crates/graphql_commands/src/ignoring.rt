@@ -3,7 +3,6 @@
 //! A pattern is matched as an automaton: of each byte of a path it is known which places of the pattern are reached, so the work is
 //! at most the length of the pattern times that of the path.
 use std::alloc::{AllocError, Global};
-use std::mem;
 
 /// Whether these patterns, the lines of a `.gitignore` file, exclude the file or the folder of this path: its names from the folder
 /// of that file on, with `/` between them. What is in an excluded folder is excluded too, but that isn't seen here. The error says
@@ -14,66 +13,43 @@ pub fn is_ignored(
     path: &str,
     is_folder: bool,
 ) -> Result<bool, AllocError> {
-    let mut reached = Reached::new(alloc);
+    let mut reached = Vec::new(alloc);
+    reached.resize(patterns.len().saturating_add(1), false)?;
+    let reached = reached.as_mut_slice();
     let mut is_ignored = false;
     for line in patterns.trim_start_matches('\u{feff}').split('\n') {
-        if let Some(rule) = rule_of(line)
-            && rule.excludes != is_ignored
-            && (is_folder || !rule.is_for_folders)
-            && rule.matches(path, &mut reached)?
-        {
-            is_ignored = rule.excludes;
-        }
+        is_ignored = is_ignored_after(line, path, is_folder, is_ignored, reached);
     }
     Ok(is_ignored)
 }
 
-// A line of the file.
-#[derive(Clone, Copy)]
-struct Rule<'a> {
-    pattern: &'a str,
-    // Without `!`.
-    excludes: bool,
-    // With `/` at the end.
-    is_for_folders: bool,
-    // With `/` elsewhere: the whole path is matched, and not its last name.
-    is_for_paths: bool,
-}
-
-impl Rule<'_> {
-    fn matches(&self, path: &str, reached: &mut Reached) -> Result<bool, AllocError> {
-        let text = match path.rsplit_once('/') {
-            Some((_, name)) if !self.is_for_paths => name,
-            _ => path,
-        };
-        reached.matches(self.pattern.as_bytes(), text.as_bytes())
-    }
-}
-
-// The rule of a line; None of a comment and an empty line.
-fn rule_of(line: &str) -> Option<Rule<'_>> {
+// Whether a path is excluded after this line, if it is or isn't before it. A comment and an empty line have no pattern. One after
+// `!` takes back what lines before it exclude, one before `/` is for folders, and one without a `/` elsewhere is for the path's
+// last name.
+fn is_ignored_after(
+    line: &str,
+    path: &str,
+    is_folder: bool,
+    is_ignored: bool,
+    reached: &mut [bool],
+) -> bool {
     if line.starts_with('#') {
-        return None;
+        return is_ignored;
     }
     let line = without_blanks(line.strip_suffix('\r').unwrap_or(line));
-    let (line, excludes) = match line.strip_prefix('!') {
-        Some(rest) => (rest, false),
-        None => (line, true),
-    };
-    let (line, is_for_folders) = match line.strip_suffix('/') {
-        Some(front) => (front, true),
-        None => (line, false),
-    };
-    let pattern = line.strip_prefix('/').unwrap_or(line);
-    if pattern.is_empty() {
-        return None;
+    let whole = line.strip_prefix('!').unwrap_or(line);
+    let excludes = whole.len() == line.len();
+    let names = whole.strip_suffix('/').unwrap_or(whole);
+    let is_for_folders = names.len() < whole.len();
+    let pattern = names.strip_prefix('/').unwrap_or(names);
+    if pattern.is_empty() || excludes == is_ignored || is_for_folders && !is_folder {
+        return is_ignored;
     }
-    Some(Rule {
-        pattern,
-        excludes,
-        is_for_folders,
-        is_for_paths: line.contains('/'),
-    })
+    let text = match path.rsplit_once('/') {
+        Some((_, name)) if !names.contains('/') => name,
+        _ => path,
+    };
+    matches(pattern, text.as_bytes(), reached) != is_ignored
 }
 
 // A line without the blanks at its end; one that a backslash escapes stays.
@@ -86,71 +62,79 @@ fn without_blanks(line: &str) -> &str {
     line.get(..kept.len().saturating_add(1)).unwrap_or(kept)
 }
 
-// Which places of a pattern are reached after some bytes of a path: by its bytes' numbers, and its length where it is matched.
-#[derive(Drop)]
-struct Reached {
-    now: Vec<bool>,
-    next: Vec<bool>,
+// Whether a pattern matches the whole text. `reached` has a place for each byte of the pattern and one for its end, and says which
+// of them are reached after some bytes of the text.
+fn matches(pattern: &str, text: &[u8], reached: &mut [bool]) -> bool {
+    for at in 0..pattern.len().saturating_add(1) {
+        set(reached, at, at == 0);
+    }
+    let mut begins = true;
+    for byte in text {
+        pass_stars(pattern, begins, reached);
+        take(pattern, *byte, reached);
+        begins = *byte == b'/';
+    }
+    pass_stars(pattern, begins, reached);
+    is_reached(reached, pattern.len())
 }
 
-impl Reached {
-    fn new(alloc: Global) -> Reached {
-        Reached {
-            now: Vec::new(alloc),
-            next: Vec::new(alloc),
+fn is_reached(reached: &[bool], at: usize) -> bool {
+    reached.get(at) == Some(&true)
+}
+
+fn set(reached: &mut [bool], at: usize, is_reached: bool) {
+    if let Some(place) = reached.get_mut(at) {
+        *place = is_reached;
+    }
+}
+
+// Reaches what can be reached without a byte, where a name of the path begins or none does.
+fn pass_stars(pattern: &str, begins: bool, reached: &mut [bool]) {
+    for at in 0..pattern.len() {
+        if is_reached(reached, at)
+            && let Some((stars, after)) = stars_at(pattern, at)
+            && (begins || !matches!(stars, Stars::Folders))
+        {
+            set(reached, after, true);
         }
     }
+}
 
-    // Whether the pattern matches the whole text.
-    fn matches(&mut self, pattern: &[u8], text: &[u8]) -> Result<bool, AllocError> {
-        let places = pattern.len().saturating_add(1);
-        self.now.clear();
-        self.now.resize(places, false)?;
-        reach(&mut self.now, 0);
-        let mut begins = true;
-        for byte in text {
-            self.next.clear();
-            self.next.resize(places, false)?;
-            self.take(pattern, begins, Some(*byte));
-            begins = *byte == b'/';
-            mem::swap(&mut self.now, &mut self.next);
-        }
-        self.take(pattern, begins, None);
-        Ok(self.now.last() == Some(&true))
-    }
-
-    // Reaches what can be reached from `now` without a byte, where a name of the path begins or none does, and in `next` what
-    // this byte leads to.
-    fn take(&mut self, pattern: &[u8], begins: bool, byte: Option<u8>) {
-        for at in 0..pattern.len() {
-            if self.now.get(at) != Some(&true) {
-                continue;
-            }
-            let rest = pattern.get(at..).unwrap_or(&[]);
-            if let Some((stars, length)) = stars_of(pattern, at) {
-                if stars != Stars::Folders || begins {
-                    reach(&mut self.now, at.saturating_add(length));
-                }
-                if byte.is_some() && (stars != Stars::InName || byte != Some(b'/')) {
-                    reach(&mut self.next, at);
-                }
-            } else if let Some(byte) = byte
-                && let Some(length) = taken(rest, byte)
-            {
-                reach(&mut self.next, at.saturating_add(length));
+// Reaches what this byte leads to, and leaves what it leads from. It leads to no place before that, so the last are left first.
+fn take(pattern: &str, byte: u8, reached: &mut [bool]) {
+    set(reached, pattern.len(), false);
+    for at in (0..pattern.len()).rev() {
+        if is_reached(reached, at) {
+            set(reached, at, false);
+            if let Some(next) = taken(pattern, at, byte) {
+                set(reached, next, true);
             }
         }
     }
 }
 
-fn reach(places: &mut Vec<bool>, at: usize) {
-    if let Some(place) = places.get_mut(at) {
-        *place = true;
+// The place of a pattern to which this byte of a path leads from this place, if it leads to one.
+fn taken(pattern: &str, at: usize, byte: u8) -> Option<usize> {
+    let is_in_name = byte != b'/';
+    if let Some((stars, _)) = stars_at(pattern, at) {
+        return (is_in_name || !matches!(stars, Stars::InName)).then_some(at);
+    }
+    let after = at.saturating_add(1);
+    match pattern.as_bytes().get(at)? {
+        b'?' => is_in_name.then_some(after),
+        b'[' => {
+            let (has, after) = set_has(pattern, after, byte)?;
+            (has && is_in_name).then_some(after)
+        }
+        _ => {
+            let (only, after) = literal(pattern, at)?;
+            (only == byte).then_some(after)
+        }
     }
 }
 
 // What a run of stars takes.
-#[derive(Clone, Copy, PartialEq, Eq)]
+#[derive(Clone, Copy)]
 enum Stars {
     // Any bytes of a name.
     InName,
@@ -160,102 +144,106 @@ enum Stars {
     All,
 }
 
-// What the stars at this place of a pattern take, and the length of their spelling.
-fn stars_of(pattern: &[u8], at: usize) -> Option<(Stars, usize)> {
+// What the stars at this place of a pattern take, and the place after them.
+fn stars_at(pattern: &str, at: usize) -> Option<(Stars, usize)> {
     let (front, rest) = pattern.split_at_checked(at)?;
-    let count = rest.iter().take_while(|byte| **byte == b'*').count();
+    let others = rest.trim_start_matches('*');
+    let count = rest.len().saturating_sub(others.len());
     if count == 0 {
         return None;
     }
-    let begins = front.is_empty() || front.ends_with(b"/");
-    if count == 1 || !begins {
-        return Some((Stars::InName, count));
+    let after = at.saturating_add(count);
+    let is_name = count > 1 && (front.is_empty() || front.ends_with('/'));
+    if is_name && others.is_empty() {
+        return Some((Stars::All, after));
     }
-    match rest.get(count) {
-        None => Some((Stars::All, count)),
-        Some(b'/') => Some((Stars::Folders, count.saturating_add(1))),
-        Some(_) => Some((Stars::InName, count)),
+    if is_name && others.starts_with('/') {
+        return Some((Stars::Folders, after.saturating_add(1)));
     }
+    Some((Stars::InName, after))
 }
 
-// How many bytes of a pattern, which begins with no star, take this byte of a path.
-fn taken(pattern: &[u8], byte: u8) -> Option<usize> {
-    match pattern {
-        [b'?', ..] => (byte != b'/').then_some(1),
-        [b'[', set @ ..] => {
-            let (has, after) = set_has(set, byte)?;
-            (has && byte != b'/').then_some(pattern.len().saturating_sub(after.len()))
-        }
-        [b'\\', escaped, ..] => (*escaped == byte).then_some(2),
-        [b'\\'] | [] => None,
-        [first, ..] => (*first == byte).then_some(1),
-    }
-}
-
-// Whether a set that begins after its bracket has this byte, and what comes after it; None where it doesn't end.
-fn set_has(set: &[u8], byte: u8) -> Option<(bool, &[u8])> {
-    let (mut rest, is_negated) = match set {
-        [b'!' | b'^', rest @ ..] => (rest, true),
-        _ => (set, false),
-    };
+// Whether a set that begins at this place, after its bracket, has this byte, and the place after it; None if it doesn't end.
+fn set_has(pattern: &str, start: usize, byte: u8) -> Option<(bool, usize)> {
+    let bytes = pattern.as_bytes();
+    let is_negated = matches!(bytes.get(start), Some(b'!' | b'^'));
+    let first = start.saturating_add(usize::from(is_negated));
+    let mut at = first;
     let mut has = false;
-    for turn in 0..set.len() {
-        if turn > 0
-            && let [b']', after @ ..] = rest
-        {
-            return Some((has != is_negated, after));
+    for _ in start..bytes.len() {
+        if at > first && bytes.get(at) == Some(&b']') {
+            return Some((has != is_negated, at.saturating_add(1)));
         }
-        let (has_byte, after) = member_has(rest, byte)?;
+        let (has_byte, after) = member_has(pattern, at, byte)?;
         has = has || has_byte;
-        rest = after;
+        at = after;
     }
     None
 }
 
-// Whether the first member of a set has this byte, and what comes after it: a class as `[:alpha:]`, a range, or a byte.
-fn member_has(set: &[u8], byte: u8) -> Option<(bool, &[u8])> {
-    if let [b'[', b':', rest @ ..] = set {
-        let end = rest.iter().position(|byte| *byte == b']')?;
-        let (name, after) = rest.split_at_checked(end)?;
-        if let [name @ .., b':'] = name {
-            return Some((class_has(name, byte)?, after.get(1..)?));
+// Whether the member of a set at this place has this byte, and the place after it: a class as `[:alpha:]`, a range, or a byte.
+fn member_has(pattern: &str, at: usize, byte: u8) -> Option<(bool, usize)> {
+    if let Some(rest) = pattern.get(at..)
+        && let Some(rest) = rest.strip_prefix("[:")
+    {
+        let (name, others) = rest.split_once(']')?;
+        if let Some(name) = name.strip_suffix(':') {
+            let after = pattern.len().saturating_sub(others.len());
+            return Some((class_has(name, byte)?, after));
         }
     }
-    let (low, rest) = literal(set)?;
-    match rest {
-        [b'-', b']', ..] => Some((byte == low, rest)),
-        [b'-', others @ ..] => {
-            let (high, after) = literal(others)?;
-            Some((byte == low || (low <= byte && byte <= high), after))
-        }
-        _ => Some((byte == low, rest)),
+    let bytes = pattern.as_bytes();
+    let (low, after) = literal(pattern, at)?;
+    let next = after.saturating_add(1);
+    if bytes.get(after) != Some(&b'-') || bytes.get(next) == Some(&b']') {
+        return Some((byte == low, after));
+    }
+    let (high, after) = literal(pattern, next)?;
+    Some((byte == low || low <= byte && byte <= high, after))
+}
+
+// The byte at a place of a pattern, which a backslash may escape, and the place after it.
+fn literal(pattern: &str, at: usize) -> Option<(u8, usize)> {
+    let bytes = pattern.as_bytes();
+    let after = at.saturating_add(1);
+    match *bytes.get(at)? {
+        b'\\' => Some((*bytes.get(after)?, after.saturating_add(1))),
+        byte => Some((byte, after)),
     }
 }
 
-// The first byte of a set, which a backslash may escape, and what comes after it.
-fn literal(set: &[u8]) -> Option<(u8, &[u8])> {
-    match set {
-        [b'\\', byte, rest @ ..] => Some((*byte, rest)),
-        [b'\\'] | [] => None,
-        [byte, rest @ ..] => Some((*byte, rest)),
+// The classes, and what is in each: pairs of the first and the last byte of a range.
+const CLASSES: [(&str, &str); 12] = [
+    ("alnum", "09AZaz"),
+    ("alpha", "AZaz"),
+    ("blank", "\t\t  "),
+    ("cntrl", "\0\x1f\x7f\x7f"),
+    ("digit", "09"),
+    ("graph", "!~"),
+    ("lower", "az"),
+    ("print", " ~"),
+    ("punct", "!/:@[`{~"),
+    ("space", "\t\n\x0c\r  "),
+    ("upper", "AZ"),
+    ("xdigit", "09AFaf"),
+];
+
+// Whether the class of this name has the byte; None if there is no such class.
+fn class_has(name: &str, byte: u8) -> Option<bool> {
+    for (class, ranges) in CLASSES {
+        if class == name {
+            return Some(are_ranges_of(ranges.as_bytes(), byte));
+        }
     }
+    None
 }
 
-// Whether the class of this name has the byte; None where there is no such class.
-fn class_has(name: &[u8], byte: u8) -> Option<bool> {
-    match name {
-        b"alnum" => Some(byte.is_ascii_alphanumeric()),
-        b"alpha" => Some(byte.is_ascii_alphabetic()),
-        b"blank" => Some(byte == b' ' || byte == b'\t'),
-        b"cntrl" => Some(byte.is_ascii_control()),
-        b"digit" => Some(byte.is_ascii_digit()),
-        b"graph" => Some(byte.is_ascii_graphic()),
-        b"lower" => Some(byte.is_ascii_lowercase()),
-        b"print" => Some(byte.is_ascii_graphic() || byte == b' '),
-        b"punct" => Some(byte.is_ascii_punctuation()),
-        b"space" => Some(byte.is_ascii_whitespace()),
-        b"upper" => Some(byte.is_ascii_uppercase()),
-        b"xdigit" => Some(byte.is_ascii_hexdigit()),
-        _ => None,
+// Whether one of these ranges has the byte.
+fn are_ranges_of(ranges: &[u8], byte: u8) -> bool {
+    for range in ranges.chunks_exact(2) {
+        if range.first() <= Some(&byte) && Some(&byte) <= range.last() {
+            return true;
+        }
     }
+    false
 }

@@ -1,36 +1,37 @@
 //! The tokens of a text, a line for each.
+use crate::telling::Teller;
 use graphql_parser::lexer::{TokenKind, Tokens};
-use std::alloc::{AllocError, Global};
+use std::alloc::AllocError;
 
-/// The lines, and whether the text is cut into tokens without a fault.
+/// Adds the lines to those for standard output, and returns whether the text is cut into tokens without a fault.
 ///
 /// A line has the place, the kind and the spelling, in which `\n` and `\r` stand for the ends of lines.
-pub fn token_lines(alloc: Global, text: &str) -> Result<(String, bool), AllocError> {
-    let mut lines = String::new(alloc);
+pub fn tell_tokens(teller: &mut Teller, text: &str) -> bool {
     let mut is_whole = true;
     for token in Tokens::new(text) {
-        let place = token.pos;
-        let kind = kind_name(token.kind);
-        write!(lines, "{place} {kind}")?;
+        teller.number("", token.pos.line);
+        teller.number(":", token.pos.column);
+        teller.word(kind_name(token.kind));
         if !token.text.is_empty() {
-            lines.push(' ')?;
-            push_in_one_line(&mut lines, token.text)?;
+            teller.word(" ");
+            teller.word_in_one_line(token.text);
         }
-        lines.push('\n')?;
+        teller.word("\n");
         is_whole = !matches!(token.kind, TokenKind::Fault);
     }
-    Ok((lines, is_whole))
+    is_whole
 }
 
+// The name of a kind, after a blank.
 fn kind_name(kind: TokenKind) -> &'static str {
     match kind {
-        TokenKind::Punct => "punctuator",
-        TokenKind::Name => "name",
-        TokenKind::Number => "number",
-        TokenKind::String => "string",
-        TokenKind::Block => "block string",
-        TokenKind::Fault => "fault",
-        TokenKind::End => "end",
+        TokenKind::Punct => " punctuator",
+        TokenKind::Name => " name",
+        TokenKind::Number => " number",
+        TokenKind::String => " string",
+        TokenKind::Block => " block string",
+        TokenKind::Fault => " fault",
+        TokenKind::End => " end",
     }
 }
 

@@ -1,10 +1,9 @@
-//! Writing: whole texts, and complaints.
-use crate::command::{Valued, Wrong};
+//! Writing whole texts, and words as a terminal shows them.
 use std::alloc::{AllocError, Global};
 use std::io;
 use std::io::{ErrorKind, Write};
 
-/// Writes all of the bytes, and tells whether it could. That nobody reads them any more, as where `head` has its lines, is
+/// Writes all of the bytes, and returns whether it could. That nobody reads them any more, as where `head` has its lines, is
 /// no failure: what is left is then written to nobody.
 pub fn put<W: Write>(to: &mut W, bytes: &[u8]) -> bool {
     match write_whole(to, bytes) {
@@ -18,73 +17,37 @@ fn write_whole<W: Write>(to: &mut W, bytes: &[u8]) -> io::Result<()> {
     to.flush()
 }
 
-/// Writes a text to standard error. A failure there changes no status.
-pub fn complain<W: Write>(to: &mut W, text: &str) {
-    put(to, text.as_bytes());
-}
-
-/// Tells on standard error what is wrong with the arguments, and then how the program is called.
-pub fn complain_of_call<E: Write>(
-    alloc: Global,
-    wrong: Wrong<'_>,
-    usage: &str,
-    err: &mut E,
-) -> Result<(), AllocError> {
-    let (what, word) = match wrong {
-        Wrong::NoCommand => ("a command is missing", None),
-        Wrong::UnknownCommand(word) => ("unknown command", Some(word)),
-        Wrong::UnknownOption(word) => ("unknown option", Some(word)),
-        Wrong::OtherOption(word) => ("this command takes no option", Some(word)),
-        Wrong::NoValue(option) => (needs(option), None),
-        Wrong::WrongValue(option, word) => (needs(option), Some(word)),
-        Wrong::SecondFile(word) => (
-            "this command takes one file, and there is a second",
-            Some(word),
-        ),
-        Wrong::NoFile(word) => ("this command takes no file, and there is one", Some(word)),
-        Wrong::NotAlone => ("standard input is formatted alone", None),
-        Wrong::NotText => ("an argument is not UTF-8", None),
-    };
-    let mut lines = format!(in alloc; "gql: {what}")?;
-    if let Some(word) = word {
-        let is_value = matches!(wrong, Wrong::WrongValue(..));
-        lines.push_str(if is_value { ", and not " } else { " " })?;
-        push_shown(&mut lines, word)?;
-    }
-    lines.push('\n')?;
-    lines.push_str(usage)?;
-    complain(err, lines.as_str());
-    Ok(())
-}
-
-fn needs(option: Valued) -> &'static str {
-    match option {
-        Valued::Limits => "--limits needs three numbers of at most 256, as 64,64,64",
-        Valued::Memory => "--memory needs a number of bytes",
-        Valued::Format => "--format needs text, json or github",
-        Valued::Color => "--color needs always, never or auto",
-    }
-}
-
-/// The name by which a file is told.
-pub fn shown_name(alloc: Global, name: &str) -> Result<String, AllocError> {
+/// The name by which a file is reported.
+pub fn reported_name(name: &str) -> &str {
     if name == "-" {
-        return String::from_str(alloc, "(standard input)");
+        "(standard input)"
+    } else {
+        name
     }
-    let mut shown = String::with_capacity(alloc, name.len())?;
-    push_shown(&mut shown, name)?;
+}
+
+/// The same as a terminal shows it.
+pub fn shown_name(alloc: Global, name: &str) -> Result<String, AllocError> {
+    let mut shown = String::new(alloc);
+    push_shown(&mut shown, reported_name(name))?;
     Ok(shown)
 }
 
-// Adds a word from the command line. A character that a terminal obeys instead of showing it is told by its number.
-fn push_shown(out: &mut String, word: &str) -> Result<(), AllocError> {
+/// Adds a word from the command line, as a terminal shows it.
+pub fn push_shown(out: &mut String, word: &str) -> Result<(), AllocError> {
     for c in word.chars() {
-        if is_shown(c) {
-            out.push(c)?;
-        } else {
-            let number = c as u32;
-            write!(out, "\\u{{{number:x}}}")?;
-        }
+        push_visible(out, c)?;
+    }
+    Ok(())
+}
+
+/// Adds a character; one that a terminal obeys instead of showing it is written as its number, as `\u{1b}`.
+pub fn push_visible(out: &mut String, c: char) -> Result<(), AllocError> {
+    if is_shown(c) {
+        return out.push(c);
+    }
+    for c in c.escape_unicode() {
+        out.push(c)?;
     }
     Ok(())
 }

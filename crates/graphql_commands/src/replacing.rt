@@ -31,17 +31,31 @@ struct Failed {
 /// error names the copy that has it.
 pub fn replace(rt: &HostRuntime, alloc: Global, name: &str, text: &str) -> Result<(), Unwritten> {
     let mut old = Vec::new(alloc);
-    let file = match opened(rt, name, &mut old) {
-        Ok(file) => file,
-        Err(error) => return Err(reason(error.kind())),
-    };
-    let copy = copied(rt, alloc, name, old.as_slice())?;
-    match written_over(&file, old.as_slice(), text.as_bytes()) {
-        Err(Failed { is_back: false, .. }) => return Err(Unwritten::HalfWritten(copy)),
+    match opened(rt, name, &mut old) {
+        Ok(file) => replace_old(rt, alloc, &file, name, old.as_slice(), text.as_bytes()),
+        Err(error) => Err(reason(error.kind())),
+    }
+}
+
+// The same in the file of this name that is open, where it has these bytes.
+fn replace_old(
+    rt: &HostRuntime,
+    alloc: Global,
+    file: &File,
+    name: &str,
+    old: &[u8],
+    text: &[u8],
+) -> Result<(), Unwritten> {
+    let copy = copied(rt, alloc, name, old)?;
+    match written_over(file, old, text) {
+        Err(Failed { is_back: false, .. }) => Err(Unwritten::HalfWritten(copy)),
         written => {
             // The text is where it belongs, and so is the old one where it isn't.
             let _ = fs::remove_file(rt, copy.as_str());
-            written.map_err(|failed| reason(failed.kind))
+            match written {
+                Ok(()) => Ok(()),
+                Err(failed) => Err(reason(failed.kind)),
+            }
         }
     }
 }
@@ -63,8 +77,10 @@ fn opened(rt: &HostRuntime, name: &str, old: &mut Vec<u8>) -> io::Result<File> {
         return Err(Error::from(ErrorKind::InvalidInput));
     }
     let mut file = OpenOptions::new().read(true).write(true).open(rt, name)?;
-    file.read_to_end(old)?;
-    Ok(file)
+    match file.read_to_end(old) {
+        Ok(_) => Ok(file),
+        Err(error) => Err(error),
+    }
 }
 
 // ---- the copy
@@ -76,15 +92,21 @@ fn copied(rt: &HostRuntime, alloc: Global, name: &str, bytes: &[u8]) -> Result<S
         None => (".", name),
     };
     match copied_into(rt, alloc, folder, name, bytes) {
-        Ok(copy) => return Ok(copy),
-        Err(error) if error.kind() == ErrorKind::OutOfMemory => return Err(Unwritten::NoMemory),
-        Err(_) => {}
+        Err(Unwritten::NoCopy) => copied_elsewhere(rt, alloc, name, bytes),
+        copied => copied,
     }
-    let temporary = env::temp_dir(rt).map_err(|error| reason(error.kind()))?;
-    match copied_into(rt, alloc, temporary.as_str(), name, bytes) {
-        Ok(copy) => Ok(copy),
-        Err(error) if error.kind() == ErrorKind::OutOfMemory => Err(Unwritten::NoMemory),
-        Err(_) => Err(Unwritten::NoCopy),
+}
+
+// The same in the folder for temporary files.
+fn copied_elsewhere(
+    rt: &HostRuntime,
+    alloc: Global,
+    name: &str,
+    bytes: &[u8],
+) -> Result<String, Unwritten> {
+    match env::temp_dir(rt) {
+        Ok(folder) => copied_into(rt, alloc, folder.as_str(), name, bytes),
+        Err(error) => Err(reason(error.kind())),
     }
 }
 
@@ -95,36 +117,33 @@ fn copied_into(
     folder: &str,
     name: &str,
     bytes: &[u8],
-) -> io::Result<String> {
+) -> Result<String, Unwritten> {
+    let mut copy = String::new(alloc);
     for count in 0..MOST_NAMES {
-        let copy = copy_name(alloc, folder, name, count)?;
-        let made = OpenOptions::new()
-            .write(true)
-            .create_new(true)
-            .mode(OWNERS_ONLY)
-            .open(rt, copy.as_str());
-        match made {
-            Ok(mut file) => {
-                if let Err(error) = filled(rt, folder, &mut file, bytes) {
-                    let _ = fs::remove_file(rt, copy.as_str());
-                    return Err(error);
-                }
-                return Ok(copy);
-            }
-            Err(error) if error.kind() == ErrorKind::AlreadyExists => {}
-            Err(error) => return Err(error),
+        if name_copy(&mut copy, folder, name, count).is_err() {
+            return Err(Unwritten::NoMemory);
+        }
+        match filled(rt, folder, copy.as_str(), bytes) {
+            Ok(()) => return Ok(copy),
+            Err(ErrorKind::AlreadyExists) => {}
+            Err(ErrorKind::OutOfMemory) => return Err(Unwritten::NoMemory),
+            Err(_) => break,
         }
     }
-    Err(Error::from(ErrorKind::AlreadyExists))
+    Err(Unwritten::NoCopy)
 }
 
-fn copy_name(alloc: Global, folder: &str, name: &str, count: usize) -> Result<String, AllocError> {
-    let name = short(name);
-    let mut copy = format!(in alloc; "{folder}/.{name}.gql-format")?;
+// Writes the name of a copy in place of another.
+fn name_copy(copy: &mut String, folder: &str, name: &str, count: usize) -> Result<(), AllocError> {
+    copy.clear();
+    copy.push_str(folder)?;
+    copy.push_str("/.")?;
+    copy.push_str(short(name))?;
+    copy.push_str(".gql-format")?;
     if count > 0 {
         write!(copy, "{count}")?;
     }
-    Ok(copy)
+    Ok(())
 }
 
 // A name, or none for one that is long.
@@ -134,15 +153,35 @@ fn short(name: &str) -> &str
     if name.len() > LONGEST_NAME { "" } else { name }
 }
 
-// Writes a copy, and waits until it and its folder are on the disk.
-fn filled(rt: &HostRuntime, folder: &str, file: &mut File, bytes: &[u8]) -> io::Result<()> {
-    file.write_all(bytes)?;
-    file.sync_all()?;
-    // Not every system can wait for a folder.
-    if let Ok(folder) = File::open(rt, folder) {
-        let _ = folder.sync_all();
+// Makes a copy, and waits until it and its folder are on the disk. Where that fails, there is no copy.
+fn filled(rt: &HostRuntime, folder: &str, copy: &str, bytes: &[u8]) -> Result<(), ErrorKind> {
+    let made = OpenOptions::new()
+        .write(true)
+        .create_new(true)
+        .mode(OWNERS_ONLY)
+        .open(rt, copy);
+    let written = match made {
+        Ok(mut file) => written_safely(&mut file, bytes),
+        Err(error) => return Err(error.kind()),
+    };
+    match written {
+        Ok(()) => {
+            // Not every system can wait for a folder.
+            if let Ok(folder) = File::open(rt, folder) {
+                let _ = folder.sync_all();
+            }
+            Ok(())
+        }
+        Err(error) => {
+            let _ = fs::remove_file(rt, copy);
+            Err(error.kind())
+        }
     }
-    Ok(())
+}
+
+fn written_safely(file: &mut File, bytes: &[u8]) -> io::Result<()> {
+    file.write_all(bytes)?;
+    file.sync_all()
 }
 
 // ---- the file

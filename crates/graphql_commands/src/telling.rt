@@ -1,20 +1,23 @@
-//! Telling what is wrong with a file: in a report for people, or in a line for a program.
+//! Reporting what is wrong with files: in reports for people, or in lines for programs.
+ghost use Rattle.std.specs.Prelude.{◌≡◌};
 ghost use Rattle.graphql_report.specs.reports.Rests.{BeginsAt};
+ghost use Rattle.graphql_commands.specs.declared.check.Found.TheVariants.{Unread as NotRead};
 
-use crate::command::Format;
-use crate::output::{complain, shown_name};
+use crate::check::Found;
+use crate::command::{Format, Valued, Wrong};
+use crate::listed::push_in_one_line;
+use crate::output::{push_shown, push_visible, put, reported_name};
 use crate::texts::{Unread, Unwritten};
 use graphql_parser::{Error, Pos};
-use graphql_report::{Finding, ReadUpTo, Style, explain_from, finding_from};
-use graphql_texts::errors::{
-    MOST_FINDINGS, Mistake, Names, Refused, Source, first_error, next_error,
-};
-use serde::Serialize;
+use graphql_report::{ReadUpTo, Style, explain_from, finding_from};
+use graphql_texts::errors::{MOST_FINDINGS, Mistake, Refused, Source, first_error, next_error};
 use std::alloc::{AllocError, Global};
 use std::io::Write;
 
-/// Tells what is wrong with files: in which form, and what was told so far. Reports go to standard error at once; the lines
-/// for programs are kept until standard output is written.
+/// Reports what is wrong with files: in which form, and what was reported so far. Reports for people wait until
+/// [`Teller::put_reports`] writes them to standard error, and lines until standard output is written.
+///
+/// A part for which memory is refused is left out. It is known then that memory ran out, and nothing is done with further files.
 #[derive(Drop)]
 pub struct Teller {
     pub alloc: Global,
@@ -23,12 +26,21 @@ pub struct Teller {
     pub is_quiet: bool,
     /// What goes to standard output.
     pub lines: String,
-    /// How many findings were told.
+    /// How many findings were reported.
     pub findings: usize,
+    // How many files were good or written anew, stayed as they are, were refused, and couldn't be read or written.
+    done: usize,
+    unchanged: usize,
+    refused: usize,
+    unread: usize,
+    unwritten: usize,
+    // What goes to standard error.
+    reports: String,
+    is_out_of_memory: bool,
 }
 
 impl Teller {
-    /// Has told nothing yet.
+    /// Has reported nothing yet.
     pub fn new(alloc: Global, format: Format, style: Style, is_quiet: bool) -> Teller {
         Teller {
             alloc,
@@ -37,57 +49,185 @@ impl Teller {
             is_quiet,
             lines: String::new(alloc),
             findings: 0,
+            done: 0,
+            unchanged: 0,
+            refused: 0,
+            unread: 0,
+            unwritten: 0,
+            reports: String::new(alloc),
+            is_out_of_memory: false,
         }
     }
 
-    /// Tells what is wrong with a text: its first error, and those after it, [`MOST_FINDINGS`] at most.
+    /// Writes the reports so far to standard error; a failure there changes no status. The error says that memory ran out before.
+    pub fn put_reports<E: Write>(&mut self, err: &mut E) -> Result<(), AllocError> {
+        put(err, self.reports.as_str().as_bytes());
+        self.reports.clear();
+        if self.is_out_of_memory {
+            return Err(AllocError);
+        }
+        Ok(())
+    }
+
+    /// Memory ran out, so a file can't be read.
+    pub fn run_out(&mut self) -> Found
+        ensures { result ≡ NotRead }
+    {
+        self.is_out_of_memory = true;
+        Found::Unread
+    }
+
+    /// Keeps whether memory was refused.
+    pub fn note(&mut self, written: Result<(), AllocError>) {
+        if written.is_err() {
+            self.is_out_of_memory = true;
+        }
+    }
+
+    // ---- Reports
+
+    /// Adds a text to the reports.
+    pub fn report(&mut self, text: &str) {
+        let written = self.reports.push_str(text);
+        self.note(written);
+    }
+
+    // Adds a word from the command line to the reports.
+    fn report_shown(&mut self, word: &str) {
+        let written = push_shown(&mut self.reports, word);
+        self.note(written);
+    }
+
+    // Adds what is wrong with a file to the reports, up to the end of its line.
+    fn report_file(&mut self, name: &str, why: &str) {
+        self.report("gql: ");
+        self.report_shown(reported_name(name));
+        self.report(" ");
+        self.report(why);
+    }
+
+    /// Reports what is wrong with the arguments, and then how the program is called.
+    pub fn report_call(&mut self, wrong: Wrong<'_>, usage: &str) {
+        let (what, before, word) = match wrong {
+            Wrong::NoCommand => ("a command is missing", "", ""),
+            Wrong::UnknownCommand(word) => ("unknown command", " ", word),
+            Wrong::UnknownOption(word) => ("unknown option", " ", word),
+            Wrong::OtherOption(word) => ("this command takes no option", " ", word),
+            Wrong::NoValue(option) => (needs(option), "", ""),
+            Wrong::WrongValue(option, word) => (needs(option), ", and not ", word),
+            Wrong::SecondFile(word) => (
+                "this command takes one file, and there is a second",
+                " ",
+                word,
+            ),
+            Wrong::NoFile(word) => ("this command takes no file, and there is one", " ", word),
+            Wrong::NotAlone => ("standard input is formatted alone", "", ""),
+            Wrong::NotText => ("an argument is not UTF-8", "", ""),
+        };
+        self.report("gql: ");
+        self.report(what);
+        self.report(before);
+        self.report_shown(word);
+        self.report("\n");
+        self.report(usage);
+    }
+
+    // ---- Lines
+
+    /// Adds a text to the lines.
+    pub fn word(&mut self, text: &str) {
+        let written = self.lines.push_str(text);
+        self.note(written);
+    }
+
+    // Adds a character to the lines.
+    fn letter(&mut self, c: char) {
+        let written = self.lines.push(c);
+        self.note(written);
+    }
+
+    /// Adds a number to the lines, after a text.
+    pub fn number(&mut self, before: &str, number: usize) {
+        self.word(before);
+        let written = write!(self.lines, "{number}");
+        self.note(written);
+    }
+
+    /// Adds a text to the lines, with `\n` and `\r` for the ends of its own.
+    pub fn word_in_one_line(&mut self, text: &str) {
+        let written = push_in_one_line(&mut self.lines, text);
+        self.note(written);
+    }
+
+    /// Adds the name of a file to the lines, and what is reported of it.
+    pub fn name(&mut self, name: &str, what: &str) {
+        let written = push_shown(&mut self.lines, reported_name(name));
+        self.note(written);
+        self.word(what);
+    }
+
+    /// Counts a file with which all is well, and adds a line for people, if one is asked for.
+    pub fn tell_done(&mut self, name: &str, what: &str, is_verbose: bool) {
+        self.done = self.done.saturating_add(1);
+        if is_verbose && matches!(self.format, Format::Text) {
+            self.name(name, what);
+        }
+    }
+
+    /// Counts a file that stays as it is.
+    pub fn tell_unchanged(&mut self) {
+        self.unchanged = self.unchanged.saturating_add(1);
+    }
+
+    /// Adds how many files there were, as `3 files: 1 good, 1 refused (2 findings), 1 not read`. This word says what was done with
+    /// those with which all is well.
+    pub fn count_files(&mut self, done: &str) {
+        let count = self
+            .done
+            .saturating_add(self.unchanged)
+            .saturating_add(self.refused)
+            .saturating_add(self.unread)
+            .saturating_add(self.unwritten);
+        self.number("", count);
+        self.number(if count == 1 { " file: " } else { " files: " }, self.done);
+        self.word(done);
+        self.count(self.unchanged, " unchanged");
+        self.count(self.refused, " refused");
+        if self.refused > 0 {
+            self.number(" (", self.findings);
+            self.word(if self.findings == 1 {
+                " finding)"
+            } else {
+                " findings)"
+            });
+        }
+        self.count(self.unread, " not read");
+        self.count(self.unwritten, " not written");
+        self.word("\n");
+    }
+
+    // Adds how many files are so, if some are.
+    fn count(&mut self, count: usize, what: &str) {
+        if count > 0 {
+            self.number(", ", count);
+            self.word(what);
+        }
+    }
+
+    // ---- Errors of a text
+
+    /// Reports what is wrong with a text, and writes the reports.
     pub fn tell_all<'a, E: Write>(
         &mut self,
         source: &Source<'a>,
         refused: Refused<'a>,
         err: &mut E,
     ) -> Result<(), AllocError> {
-        if self.is_quiet {
-            return Ok(());
-        }
-        let mut mistake = first_error(source, refused);
-        self.tell_mistake(source, &mistake, err)?;
-        for _ in 1..MOST_FINDINGS {
-            let Some(next) = next_error(self.alloc, source, &mistake)? else {
-                break;
-            };
-            self.tell_mistake(source, &next, err)?;
-            mistake = next;
-        }
-        Ok(())
+        self.tell_mistakes(source, refused);
+        self.put_reports(err)
     }
 
-    // Tells an error of a text.
-    fn tell_mistake<E: Write>(
-        &mut self,
-        source: &Source<'_>,
-        mistake: &Mistake<'_>,
-        err: &mut E,
-    ) -> Result<(), AllocError>
-        requires { BeginsAt source.now.text.now mistake.now.known.from }
-    {
-        let (told, read) = mistake.told_in(source);
-        self.tell(&told, &read, &mistake.error, err)
-    }
-
-    /// Tells the error of a text that was read from its beginning on.
-    pub fn tell_one<E: Write>(
-        &mut self,
-        source: &Source<'_>,
-        error: &Error,
-        err: &mut E,
-    ) -> Result<(), AllocError> {
-        let known = source.refused_first(self.alloc, error)?;
-        self.tell(source, &known, error, err)
-    }
-
-    /// Tells the error of a text of whose reading this is known: a report goes to `err`, and a line for programs is added to the
-    /// lines.
+    /// Reports the error of a text of whose reading this is known, and writes the reports.
     pub fn tell<E: Write>(
         &mut self,
         source: &Source<'_>,
@@ -95,6 +235,50 @@ impl Teller {
         error: &Error,
         err: &mut E,
     ) -> Result<(), AllocError>
+        requires { BeginsAt source.now.text.now known.now.from }
+    {
+        self.tell_error(source, known, error);
+        self.put_reports(err)
+    }
+
+    /// Reports what is wrong with a text: its first error, and those after it, [`MOST_FINDINGS`] at most.
+    pub fn tell_mistakes<'a>(&mut self, source: &Source<'a>, refused: Refused<'a>) {
+        self.refused = self.refused.saturating_add(1);
+        if self.is_quiet {
+            return;
+        }
+        let mut mistake = first_error(source, refused);
+        for _ in 0..MOST_FINDINGS {
+            self.tell_mistake(source, &mistake);
+            match next_error(self.alloc, source, &mistake) {
+                Ok(Some(next)) => mistake = next,
+                Ok(None) => break,
+                Err(_) => {
+                    self.is_out_of_memory = true;
+                    break;
+                }
+            }
+        }
+    }
+
+    // Reports an error of a text.
+    fn tell_mistake(&mut self, source: &Source<'_>, mistake: &Mistake<'_>)
+        requires { BeginsAt source.now.text.now mistake.now.known.from }
+    {
+        let (told, read) = mistake.told_in(source);
+        self.tell_error(&told, &read, &mistake.error);
+    }
+
+    /// Reports the error of a text that was read from its beginning on.
+    pub fn tell_one(&mut self, source: &Source<'_>, error: &Error) {
+        match source.refused_first(self.alloc, error) {
+            Ok(known) => self.tell_error(source, &known, error),
+            Err(_) => self.is_out_of_memory = true,
+        }
+    }
+
+    // Reports the error of a text of whose reading this is known.
+    fn tell_error(&mut self, source: &Source<'_>, known: &ReadUpTo<'_>, error: &Error)
         requires { BeginsAt source.now.text.now known.now.from }
     {
         let Source {
@@ -105,152 +289,184 @@ impl Teller {
         } = *source;
         let (alloc, style, shown) = (self.alloc, self.style, names.shown);
         self.findings = self.findings.saturating_add(1);
-        if self.format == Format::Text {
-            let report = explain_from(style, alloc, language, shown, text, known, limits, error)?;
-            complain(err, report.as_str());
-            return Ok(());
+        if let Format::Text = self.format {
+            match explain_from(style, alloc, language, shown, text, known, limits, error) {
+                Ok(report) => self.report(report.as_str()),
+                Err(_) => self.is_out_of_memory = true,
+            }
+            return;
         }
-        let finding = finding_from(alloc, language, text, known, limits, error)?;
-        self.push_finding(names, &finding)
+        match finding_from(alloc, language, text, known, limits, error) {
+            Ok(found) => self.push_line(&Line {
+                name: names.name,
+                place: found.place,
+                end: found.end,
+                status: found.status,
+                message: found.message.as_str(),
+            }),
+            Err(_) => self.is_out_of_memory = true,
+        }
     }
 
-    /// Tells why there is no text in a file; people alone, where it is only skipped.
-    pub fn tell_unread<E: Write>(
-        &mut self,
-        names: Names<'_>,
-        why: Unread,
-        err: &mut E,
-    ) -> Result<(), AllocError> {
-        let why_told = why.words().ok_or(AllocError)?;
+    // ---- Files without a text
+
+    /// Reports why there is no text in a file; to people alone, if it is only skipped.
+    pub fn tell_unread(&mut self, name: &str, why: Unread) {
+        let Some(message) = why.words() else {
+            self.is_out_of_memory = true;
+            return;
+        };
+        let is_skipped = why.is_skipped();
+        if !is_skipped {
+            self.unread = self.unread.saturating_add(1);
+        }
         if self.is_quiet {
-            return Ok(());
+            return;
         }
-        if self.format == Format::Text || why.is_skipped() {
-            return complain_of_file(self.alloc, names, why_told, err);
+        if is_skipped || matches!(self.format, Format::Text) {
+            self.report_file(name, message);
+            self.report("\n");
+            return;
         }
-        let finding = Finding {
+        self.push_line(&Line {
+            name: reported_name(name),
             place: None,
             end: None,
             status: why.status(),
-            message: String::from_str(self.alloc, why_told)?,
-            meant: None,
+            message,
+        });
+    }
+
+    /// Reports to people why a file isn't written. If its old text is elsewhere, that is reported even if all else is quiet.
+    pub fn tell_unwritten(&mut self, name: &str, why: &Unwritten) {
+        let Some(words) = why.words() else {
+            self.is_out_of_memory = true;
+            return;
         };
-        self.push_finding(names, &finding)
-    }
-
-    /// Tells people why a file isn't written. Where its old text is elsewhere, that is told even if all else is quiet.
-    pub fn tell_unwritten<E: Write>(
-        &mut self,
-        names: Names<'_>,
-        why: &Unwritten,
-        err: &mut E,
-    ) -> Result<(), AllocError> {
-        let why_told = why.words().ok_or(AllocError)?;
+        self.unwritten = self.unwritten.saturating_add(1);
         if let Unwritten::HalfWritten(copy) = why {
-            let copy = shown_name(self.alloc, copy.as_str())?;
-            let why_told = format!(in self.alloc; "{why_told} {copy}")?;
-            return complain_of_file(self.alloc, names, why_told.as_str(), err);
+            self.report_file(name, words);
+            self.report(" ");
+            self.report_shown(copy.as_str());
+            self.report("\n");
+        } else if !self.is_quiet {
+            self.report_file(name, words);
+            self.report("\n");
         }
-        if self.is_quiet {
-            return Ok(());
-        }
-        complain_of_file(self.alloc, names, why_told, err)
     }
 
-    // Adds the line of a finding for programs.
-    fn push_finding(&mut self, names: Names<'_>, finding: &Finding) -> Result<(), AllocError> {
-        if self.format == Format::Github {
-            push_command(self.alloc, names.shown, finding, &mut self.lines)
+    // ---- Lines for programs
+
+    // Adds the line of a finding.
+    fn push_line(&mut self, line: &Line<'_>) {
+        if let Format::Github = self.format {
+            self.push_command(line);
         } else {
-            push_json(self.alloc, names.name, finding, &mut self.lines)
+            self.push_json(line);
+        }
+    }
+
+    // Adds a finding as JSON.
+    fn push_json(&mut self, line: &Line<'_>) {
+        self.word("{\"file\":");
+        self.push_quoted(line.name);
+        if let Some(Pos { line, column }) = line.place {
+            self.number(",\"line\":", line);
+            self.number(",\"column\":", column);
+        }
+        if let Some(Pos { line, column }) = line.end {
+            self.number(",\"endLine\":", line);
+            self.number(",\"endColumn\":", column);
+        }
+        self.word(",\"severity\":\"error\",\"status\":\"");
+        self.word(line.status);
+        self.word("\",\"message\":");
+        self.push_quoted(line.message);
+        self.word("}\n");
+    }
+
+    // Adds a text as a string of JSON.
+    fn push_quoted(&mut self, text: &str) {
+        self.word("\"");
+        for c in text.chars() {
+            match c {
+                '"' => self.word("\\\""),
+                '\\' => self.word("\\\\"),
+                '\u{8}' => self.word("\\b"),
+                '\t' => self.word("\\t"),
+                '\n' => self.word("\\n"),
+                '\u{c}' => self.word("\\f"),
+                '\r' => self.word("\\r"),
+                '\0'..='\u{f}' => self.push_digit("\\u000", c),
+                '\u{10}'..='\u{1f}' => self.push_digit("\\u001", c),
+                other => self.letter(other),
+            }
+        }
+        self.word("\"");
+    }
+
+    // Adds the last hexadecimal digit of a character's number, after a text.
+    fn push_digit(&mut self, before: &str, c: char) {
+        self.word(before);
+        self.letter(char::from_digit(c as u32 % 16, 16).unwrap_or('0'));
+    }
+
+    // Adds the command by which GitHub shows a finding beside its line.
+    fn push_command(&mut self, line: &Line<'_>) {
+        self.word("::error file=");
+        self.push_property(line.name);
+        if let Some(Pos { line, column }) = line.place {
+            self.number(",line=", line);
+            self.number(",col=", column);
+        }
+        self.word("::");
+        self.push_message(line.message);
+        self.word("\n");
+    }
+
+    // Adds the name of a file, in which no character ends a property of a command.
+    fn push_property(&mut self, name: &str) {
+        for c in name.chars() {
+            match c {
+                '%' => self.word("%25"),
+                ':' => self.word("%3A"),
+                ',' => self.word("%2C"),
+                other => {
+                    let written = push_visible(&mut self.lines, other);
+                    self.note(written);
+                }
+            }
+        }
+    }
+
+    // Adds a text in which no character ends the message of a command.
+    fn push_message(&mut self, text: &str) {
+        for c in text.chars() {
+            match c {
+                '%' => self.word("%25"),
+                '\r' => self.word("%0D"),
+                '\n' => self.word("%0A"),
+                other => self.letter(other),
+            }
         }
     }
 }
 
-fn complain_of_file<E: Write>(
-    alloc: Global,
-    names: Names<'_>,
-    why: &str,
-    err: &mut E,
-) -> Result<(), AllocError> {
-    let shown = names.shown;
-    let line = format!(in alloc; "gql: {shown} {why}\n")?;
-    complain(err, line.as_str());
-    Ok(())
-}
-
-// ---- JSON
-
-// A finding as it is written in JSON.
-#[derive(Clone, Copy, Serialize)]
-#[serde(rename_all = "camelCase")]
+// A finding as it is written in a line.
+#[derive(Clone, Copy)]
 struct Line<'a> {
-    file: &'a str,
-    #[serde(skip_serializing_if = "Option::is_none")]
-    line: Option<usize>,
-    #[serde(skip_serializing_if = "Option::is_none")]
-    column: Option<usize>,
-    #[serde(skip_serializing_if = "Option::is_none")]
-    end_line: Option<usize>,
-    #[serde(skip_serializing_if = "Option::is_none")]
-    end_column: Option<usize>,
-    severity: &'static str,
+    name: &'a str,
+    place: Option<Pos>,
+    end: Option<Pos>,
     status: &'static str,
     message: &'a str,
 }
 
-fn push_json(
-    alloc: Global,
-    name: &str,
-    finding: &Finding,
-    lines: &mut String,
-) -> Result<(), AllocError> {
-    let line = Line {
-        file: name,
-        line: finding.place.map(|place| place.line),
-        column: finding.place.map(|place| place.column),
-        end_line: finding.end.map(|place| place.line),
-        end_column: finding.end.map(|place| place.column),
-        severity: "error",
-        status: finding.status,
-        message: finding.message.as_str(),
-    };
-    let json = serde_json::to_string(alloc, &line).map_err(|_| AllocError)?;
-    lines.push_str(json.as_str())?;
-    lines.push('\n')
-}
-
-// ---- GitHub
-
-// Adds the command by which GitHub shows a finding beside its line.
-fn push_command(
-    alloc: Global,
-    shown: &str,
-    finding: &Finding,
-    lines: &mut String,
-) -> Result<(), AllocError> {
-    lines.push_str("::error file=")?;
-    push_escaped(lines, shown, true)?;
-    if let Some(Pos { line, column }) = finding.place {
-        let place = format!(in alloc; ",line={line},col={column}")?;
-        lines.push_str(place.as_str())?;
+fn needs(option: Valued) -> &'static str {
+    match option {
+        Valued::Limits => "--limits needs three numbers of at most 256, as 64,64,64",
+        Valued::Memory => "--memory needs a number of bytes",
+        Valued::Format => "--format needs text, json or github",
+        Valued::Color => "--color needs always, never or auto",
     }
-    lines.push_str("::")?;
-    push_escaped(lines, finding.message.as_str(), false)?;
-    lines.push('\n')
-}
-
-// Adds a text in which no character ends the message of a command, or the property where it is one.
-fn push_escaped(out: &mut String, text: &str, is_property: bool) -> Result<(), AllocError> {
-    for c in text.chars() {
-        match c {
-            '%' => out.push_str("%25")?,
-            '\r' => out.push_str("%0D")?,
-            '\n' => out.push_str("%0A")?,
-            ':' if is_property => out.push_str("%3A")?,
-            ',' if is_property => out.push_str("%2C")?,
-            other => out.push(other)?,
-        }
-    }
-    Ok(())
 }

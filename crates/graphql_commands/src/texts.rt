@@ -8,8 +8,8 @@ ghost use Rattle.graphql_commands.specs.declared.texts.Unread.TheVariants.{Forbi
 use crate::replacing::replace;
 use crate::walking::walk;
 use std::alloc::{AllocError, Global};
-use std::fs;
 use std::io::{ErrorKind, Read};
+use std::{fs, io};
 
 /// Why there is no text, or it isn't checked.
 #[derive(Clone, Copy)]
@@ -169,7 +169,10 @@ pub trait Texts {
 
 /// The text that these bytes are.
 pub fn text_of(bytes: Vec<u8>) -> Result<String, Unread> {
-    String::from_utf8(bytes).map_err(|_| Unread::NotText)
+    match String::from_utf8(bytes) {
+        Ok(text) => Ok(text),
+        Err(_) => Err(Unread::NotText),
+    }
 }
 
 /// Why there is no text where a system's call failed in this way.
@@ -181,6 +184,13 @@ pub fn reason(kind: ErrorKind) -> Unread {
         ErrorKind::OutOfMemory => Unread::NoMemory,
         _ => Unread::Unreadable,
     }
+}
+
+// What is on standard input.
+fn input(rt: &HostRuntime, alloc: Global) -> io::Result<Vec<u8>> {
+    let mut bytes = Vec::new(alloc);
+    rt.stdin().read_to_end(&mut bytes)?;
+    Ok(bytes)
 }
 
 /// The files of the machine.
@@ -195,11 +205,7 @@ impl Texts for Disk<'_> {
 
     fn text(&mut self, alloc: Global, name: &str) -> Result<String, Unread> {
         let read = if name == "-" {
-            let mut bytes = Vec::new(alloc);
-            match self.rt.stdin().read_to_end(&mut bytes) {
-                Ok(_) => Ok(bytes),
-                Err(error) => Err(error),
-            }
+            input(self.rt, alloc)
         } else {
             fs::read(self.rt, name)
         };

@@ -27,11 +27,18 @@ struct Walker<'a> {
     found: Listing,
 }
 
+// What the walk does with what has a name.
+#[derive(Clone, Copy)]
+enum Taken {
+    File,
+    Folder,
+    Nothing,
+}
+
 /// The GraphQL files below the folder of this name, in the order of their names, and what can't be read there. Links to folders,
 /// and to what is outside, aren't followed. Unless the walk takes all, it goes into no hidden folder, none named `node_modules`,
 /// and takes nothing that the file `.gitignore` in the folder excludes. The error says why the folder itself can't be read.
 pub fn walk(rt: &HostRuntime, alloc: Global, name: &str, takes_all: bool) -> io::Result<Listing> {
-    let names = names_in(rt, alloc, name)?;
     let mut walker = Walker {
         rt,
         alloc,
@@ -43,22 +50,15 @@ pub fn walk(rt: &HostRuntime, alloc: Global, name: &str, takes_all: bool) -> io:
             passed: Vec::new(alloc),
         },
     };
-    if !takes_all {
-        walker.read_patterns()?;
+    match walker.take_all() {
+        Ok(()) => Ok(walker.found),
+        Err(error) => Err(error),
     }
-    let mut folders = Vec::new(alloc);
-    walker.take_names(name, names.as_slice(), &mut folders)?;
-    walker.take_folders(folders)?;
-    let mut found = walker.found;
-    found.files.sort()?;
-    Ok(found)
 }
 
-// The names of what is in a folder, a NUL after each.
-fn names_in(rt: &HostRuntime, alloc: Global, folder: &str) -> io::Result<Vec<u8>> {
-    let path = joined(alloc, folder, "")?;
-    let mut dir = rt.open_dir(path.as_str())?;
-    let mut names = Vec::new(alloc);
+// Adds the names of what is in a folder, a NUL after each.
+fn push_names(rt: &HostRuntime, folder: &str, names: &mut Vec<u8>) -> io::Result<()> {
+    let mut dir = rt.open_dir(folder)?;
     // A read gives whole names, and fails where it has no room for one.
     let mut part = [0u8; PART];
     for _ in 0..u64::MAX {
@@ -68,15 +68,21 @@ fn names_in(rt: &HostRuntime, alloc: Global, folder: &str) -> io::Result<Vec<u8>
         }
         names.extend_from_slice(part.get(..length).unwrap_or(&[]))?;
     }
-    Ok(names)
+    Ok(())
 }
 
 fn joined(alloc: Global, folder: &str, name: &str) -> Result<String, AllocError> {
-    if folder.ends_with('/') {
-        format!(in alloc; "{folder}{name}")
-    } else {
-        format!(in alloc; "{folder}/{name}")
+    let mut path = String::new(alloc);
+    push_path(&mut path, folder, name)?;
+    Ok(path)
+}
+
+fn push_path(path: &mut String, folder: &str, name: &str) -> Result<(), AllocError> {
+    path.push_str(folder)?;
+    if !folder.ends_with('/') {
+        path.push('/')?;
     }
+    path.push_str(name)
 }
 
 fn is_graphql(name: &str) -> bool {
@@ -89,51 +95,67 @@ fn is_graphql(name: &str) -> bool {
 }
 
 impl Walker<'_> {
-    // Keeps that this can't be read or is passed over.
-    fn pass(&mut self, name: &str, why: Unread) -> Result<(), AllocError> {
-        let name = String::from_str(self.alloc, name)?;
-        self.found.passed.push(Passed { name, why })?;
+    // Takes what is below the folder, that first which lies less deep.
+    fn take_all(&mut self) -> io::Result<()> {
+        let mut folders = Vec::new(self.alloc);
+        self.take_top(&mut folders)?;
+        for _ in 0..MOST_FOLDERS {
+            if folders.is_empty() {
+                break;
+            }
+            folders = self.take_folders(folders.as_slice())?;
+        }
+        self.found.files.sort()?;
         Ok(())
+    }
+
+    // Takes what is in the folder itself, after its patterns are read.
+    fn take_top(&mut self, inner: &mut Vec<String>) -> io::Result<()> {
+        if !self.takes_all {
+            self.read_patterns()?;
+        }
+        self.take_folder(self.top, inner)
     }
 
     // Reads the file `.gitignore`, if there is one.
     fn read_patterns(&mut self) -> Result<(), AllocError> {
         let path = joined(self.alloc, self.top, ".gitignore")?;
-        let is_file = match fs::symlink_metadata(self.rt, path.as_str()) {
-            Ok(metadata) => metadata.is_file(),
-            Err(_) => false,
-        };
-        if !is_file {
-            return Ok(());
+        match fs::symlink_metadata(self.rt, path.as_str()) {
+            Ok(metadata) if metadata.is_file() => self.read_patterns_in(path.as_str()),
+            _ => Ok(()),
         }
-        match fs::read(self.rt, path.as_str()) {
+    }
+
+    fn read_patterns_in(&mut self, path: &str) -> Result<(), AllocError> {
+        match fs::read(self.rt, path) {
             Ok(bytes) => self.patterns = String::from_utf8_lossy(self.alloc, bytes.as_slice())?,
-            Err(error) => self.pass(path.as_str(), reason(error.kind()))?,
+            Err(error) => self.pass(path, reason(error.kind()))?,
         }
         Ok(())
     }
 
-    // Takes what is below these folders, those first that lie less deep.
-    fn take_folders(&mut self, folders: Vec<String>) -> Result<(), AllocError> {
-        let mut folders = folders;
-        for _ in 0..MOST_FOLDERS {
-            let mut inner = Vec::new(self.alloc);
-            for folder in &folders {
-                self.take_folder(folder.as_str(), &mut inner)?;
+    // Takes what is in these folders, and returns the folders in them.
+    fn take_folders(&mut self, folders: &[String]) -> Result<Vec<String>, AllocError> {
+        let mut inner = Vec::new(self.alloc);
+        for folder in folders {
+            if let Err(error) = self.take_folder(folder.as_str(), &mut inner) {
+                self.pass(folder.as_str(), reason(error.kind()))?;
             }
-            if inner.is_empty() {
-                break;
-            }
-            folders = inner;
         }
-        Ok(())
+        Ok(inner)
     }
 
-    fn take_folder(&mut self, folder: &str, inner: &mut Vec<String>) -> Result<(), AllocError> {
-        match names_in(self.rt, self.alloc, folder) {
-            Ok(names) => self.take_names(folder, names.as_slice(), inner),
-            Err(error) => self.pass(folder, reason(error.kind())),
-        }
+    // Takes the files in a folder, and adds the folders in it to `inner`. The error says why the folder can't be read.
+    fn take_folder(&mut self, folder: &str, inner: &mut Vec<String>) -> io::Result<()> {
+        let mut names = Vec::new(self.alloc);
+        self.read_names(folder, &mut names)?;
+        Ok(self.take_names(folder, names.as_slice(), inner)?)
+    }
+
+    // Adds the names of what is in a folder.
+    fn read_names(&self, folder: &str, names: &mut Vec<u8>) -> io::Result<()> {
+        let path = joined(self.alloc, folder, "")?;
+        push_names(self.rt, path.as_str(), names)
     }
 
     // Takes the files of these names in a folder, and adds the folders to `inner`.
@@ -144,10 +166,8 @@ impl Walker<'_> {
         inner: &mut Vec<String>,
     ) -> Result<(), AllocError> {
         for name in names.split(|byte| *byte == 0) {
-            if matches!(name, b"" | b"." | b"..") {
-                continue;
-            }
             match str::from_utf8(name) {
+                Ok("" | "." | "..") => {}
                 Ok(name) => self.take_name(folder, name, inner)?,
                 Err(_) => self.take_bad_name(folder, name)?,
             }
@@ -159,16 +179,27 @@ impl Walker<'_> {
     // GraphQL file, since it may be a folder of some.
     fn take_bad_name(&mut self, folder: &str, name: &[u8]) -> Result<(), AllocError> {
         let name = String::from_utf8_lossy(self.alloc, name)?;
-        let path = joined(self.alloc, folder, name.as_str())?;
-        if self.leaves_out(path.as_str(), name.as_str(), true)? {
+        self.pass_bad_name(folder, name.as_str())
+    }
+
+    fn pass_bad_name(&mut self, folder: &str, name: &str) -> Result<(), AllocError> {
+        let path = joined(self.alloc, folder, name)?;
+        if self.leaves_out(path.as_str(), name, true)? {
             return Ok(());
         }
-        let why = if is_graphql(name.as_str()) {
+        let why = if is_graphql(name) {
             Unread::BadName
         } else {
             Unread::OddName
         };
         self.pass(path.as_str(), why)
+    }
+
+    // Keeps that this can't be read or is passed over.
+    fn pass(&mut self, name: &str, why: Unread) -> Result<(), AllocError> {
+        let name = String::from_str(self.alloc, name)?;
+        self.found.passed.push(Passed { name, why })?;
+        Ok(())
     }
 
     fn take_name(
@@ -178,26 +209,31 @@ impl Walker<'_> {
         inner: &mut Vec<String>,
     ) -> Result<(), AllocError> {
         let path = joined(self.alloc, folder, name)?;
-        let metadata = match fs::symlink_metadata(self.rt, path.as_str()) {
-            Ok(metadata) => metadata,
-            // It was taken away in the meantime.
-            Err(error) if error.kind() == ErrorKind::NotFound => return Ok(()),
-            Err(error) => return self.pass(path.as_str(), reason(error.kind())),
-        };
-        let is_folder = metadata.is_dir();
-        if !is_folder && !is_graphql(name) || self.leaves_out(path.as_str(), name, is_folder)? {
-            return Ok(());
-        }
-        if is_folder {
-            inner.push(path)?;
-            return Ok(());
-        }
-        match self.is_taken(path.as_str(), &metadata) {
-            Ok(true) => self.found.files.push(path)?,
-            Ok(false) => {}
+        match self.taken(path.as_str(), name) {
+            Ok(Taken::File) => self.found.files.push(path)?,
+            Ok(Taken::Folder) => inner.push(path)?,
+            Ok(Taken::Nothing) => {}
             Err(why) => self.pass(path.as_str(), why)?,
         }
         Ok(())
+    }
+
+    // What the walk does with what has this path, whose last name this is.
+    fn taken(&self, path: &str, name: &str) -> Result<Taken, Unread> {
+        let metadata = match fs::symlink_metadata(self.rt, path) {
+            Ok(metadata) => metadata,
+            // It was taken away in the meantime.
+            Err(error) if error.kind() == ErrorKind::NotFound => return Ok(Taken::Nothing),
+            Err(error) => return Err(reason(error.kind())),
+        };
+        let is_folder = metadata.is_dir();
+        if !is_folder && !is_graphql(name) || self.leaves_out(path, name, is_folder)? {
+            return Ok(Taken::Nothing);
+        }
+        if is_folder {
+            return Ok(Taken::Folder);
+        }
+        self.taken_file(path, &metadata)
     }
 
     // Whether the walk leaves this out, a folder or a file of this name.
@@ -213,19 +249,18 @@ impl Walker<'_> {
         is_ignored(self.alloc, self.patterns.as_str(), below, is_folder)
     }
 
-    // Whether what has a GraphQL file's name is a file, or a link to one in the folder; no link to a folder is taken.
-    fn is_taken(&self, path: &str, metadata: &Metadata) -> Result<bool, Unread> {
+    // What has a GraphQL file's name is taken if it is a file, or a link to one in the folder; no link to a folder is taken.
+    fn taken_file(&self, path: &str, metadata: &Metadata) -> Result<Taken, Unread> {
+        if metadata.is_file() {
+            return Ok(Taken::File);
+        }
         if !metadata.is_symlink() {
-            return if metadata.is_file() {
-                Ok(true)
-            } else {
-                Err(Unread::Special)
-            };
+            return Err(Unread::Special);
         }
         match fs::metadata(self.rt, path) {
-            Ok(metadata) if metadata.is_dir() => Ok(false),
+            Ok(metadata) if metadata.is_dir() => Ok(Taken::Nothing),
             Ok(metadata) if !metadata.is_file() => Err(Unread::Special),
-            Ok(_) if self.is_inside(path) => Ok(true),
+            Ok(_) if self.is_inside(path) => Ok(Taken::File),
             Ok(_) => Err(Unread::LinkOutside),
             Err(error) => Err(match error.kind() {
                 ErrorKind::PermissionDenied => Unread::Forbidden,
@@ -237,15 +272,23 @@ impl Walker<'_> {
 
     // Whether this leads to what is in the folder.
     fn is_inside(&self, path: &str) -> bool {
-        let Ok(top) = fs::canonicalize(self.rt, self.top) else {
-            return false;
-        };
-        let Ok(path) = fs::canonicalize(self.rt, path) else {
-            return false;
-        };
-        match path.as_str().strip_prefix(top.as_str()) {
-            Some(below) => below.starts_with('/') || top.as_str() == "/",
-            None => false,
+        match fs::canonicalize(self.rt, self.top) {
+            Ok(top) => self.leads_below(top.as_str(), path),
+            Err(_) => false,
         }
+    }
+
+    fn leads_below(&self, top: &str, path: &str) -> bool {
+        match fs::canonicalize(self.rt, path) {
+            Ok(path) => is_below(path.as_str(), top),
+            Err(_) => false,
+        }
+    }
+}
+
+fn is_below(path: &str, top: &str) -> bool {
+    match path.strip_prefix(top) {
+        Some(below) => below.starts_with('/') || top == "/",
+        None => false,
     }
 }

@@ -1,4 +1,4 @@
-use Rattle.std.proofs.Common.{◌≡◌, sym, ◌∙◌, subst}
+use Rattle.std.proofs.Common.{sym, ◌∙◌, subst}
 use Rattle.graphql_tokens.specs.tokens.Cuts.{EndsOnce}
 use Rattle.graphql_tokens.specs.tokens.Seen.{seen}
 use Rattle.graphql_tokens.specs.tokens.Token.{left}

@@ -1,5 +1,0 @@
-use Rattle.graphql_report.specs.reports.Rests.{BeginsAt}
-use Rattle.graphql_commands.proofs.telling.Teller.tell_all.Given as goal
-
-abbrev pub invariant-loop : goal.invariant-loop
-invariant-loop g l = BeginsAt l.source.text.now l.mistake.known.from
