@@ -18,3 +18,10 @@ AreInOrder offset text (edit ∷ edits) = (offset ≤ edit.start) × (edit.start
 pub record IsEdited (text new : List ℕ) (edits : List Edit) (after : List ℕ) : Type 0 where
   pub ordered : AreInOrder 0 text edits
   pub made : after ≡ edited_from 0 text new edits
+
+-- a text has the same between two offsets as another between two
+pub record IsSamePart (old : List ℕ) (start end : ℕ) (new : List ℕ) (new_start new_end : ℕ) : Type 0 where
+  pub old_rises : start ≤ end
+  pub new_rises : new_start ≤ new_end
+  pub old_within : end ≤ length old
+  pub same : slice_range old start end ≡ slice_range new new_start new_end

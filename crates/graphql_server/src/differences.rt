@@ -1,7 +1,7 @@
 //! How one text differs from another, line by line.
 
 ghost use Rattle.std.specs.Prelude.{IfOk, IsTrue};
-ghost use Rattle.graphql_server.specs.Edited.{IsEdited};
+ghost use Rattle.graphql_server.specs.Edited.{IsEdited, IsSamePart};
 
 use std::alloc::{AllocError, Global};
 
@@ -48,17 +48,23 @@ fn are_edits(old: &str, new: &str, edits: &[Edit]) -> bool
     let mut passed = 0usize;
     let mut made = 0usize;
     for edit in edits {
-        let (Some(kept), Some(same)) = (old.get(passed..edit.start), new.get(made..edit.new_start))
-        else {
+        if !is_same(old, passed, edit.start, new, made, edit.new_start) {
             return false;
-        };
-        if kept != same || edit.end < edit.start || edit.new_end < edit.new_start {
+        }
+        if edit.end < edit.start || edit.new_end < edit.new_start {
             return false;
         }
         passed = edit.end;
         made = edit.new_end;
     }
-    match (old.get(passed..), new.get(made..)) {
+    is_same(old, passed, old.len(), new, made, new.len())
+}
+
+// Whether the old text has the same between two offsets as the new one between two others.
+fn is_same(old: &str, start: usize, end: usize, new: &str, new_start: usize, new_end: usize) -> bool
+    ensures { IsTrue result → IsSamePart old.now start end new.now new_start new_end }
+{
+    match (old.get(start..end), new.get(new_start..new_end)) {
         (Some(old), Some(new)) => old == new,
         _ => false,
     }

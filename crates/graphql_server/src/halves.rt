@@ -34,13 +34,10 @@ pub fn replace_halves(content: &mut [u8]) {
 
 // Puts U+FFFD in the place of the escape that begins at this byte.
 fn replace(content: &mut [u8], at: usize) {
-    if let Some([_, _, first, second, third, fourth]) = content.get_mut(
-        at..at.saturating_add(LENGTH),
-    ) {
-        *first = b'f';
-        *second = b'f';
-        *third = b'f';
-        *fourth = b'd';
+    for (place, digit) in b"fffd".iter().enumerate() {
+        if let Some(byte) = content.get_mut(at.saturating_add(2).saturating_add(place)) {
+            *byte = *digit;
+        }
     }
 }
 

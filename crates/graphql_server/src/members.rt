@@ -82,24 +82,20 @@ impl<'v, 'a> Member<'v, 'a> {
 
     /// The value at a path, as `params.textDocument.uri`, of a message or an item of a list.
     pub fn at(self, path: &'static str) -> Result<Member<'v, 'a>, Fault> {
-        let mut value = self.value;
-        let mut passed = 0usize;
-        for name in path.split('.') {
-            let end = passed.saturating_add(name.len());
-            value = match member_of(value, name) {
-                Ok(member) => member,
-                Err(Wrong::NotObject) => {
-                    return Err(self.fault_at(path, passed.saturating_sub(1), Wrong::NotObject));
-                }
-                Err(wrong) => return Err(self.fault_at(path, end, wrong)),
-            };
-            passed = end.saturating_add(1);
+        match find(self.value, path) {
+            Ok(value) => Ok(Member {
+                value,
+                item: self.item,
+                path,
+            }),
+            Err(lack) => Err(Fault {
+                item: self.item,
+                path: path
+                    .get(..path.len().saturating_sub(lack.left))
+                    .unwrap_or(path),
+                wrong: lack.wrong,
+            }),
         }
-        Ok(Member {
-            value,
-            item: self.item,
-            path,
-        })
     }
 
     /// The same, if it is there and not null.
@@ -113,15 +109,6 @@ impl<'v, 'a> Member<'v, 'a> {
                 Wrong::Missing => Ok(None),
                 _ => Err(fault),
             },
-        }
-    }
-
-    // The fault of the member whose path is this one up to that byte.
-    fn fault_at(self, path: &'static str, end: usize, wrong: Wrong) -> Fault {
-        Fault {
-            item: self.item,
-            path: path.get(..end).unwrap_or(path),
-            wrong,
         }
     }
 
@@ -206,6 +193,29 @@ impl<'v, 'a> Member<'v, 'a> {
             }
         }
         Ok(first)
+    }
+}
+
+// What is wrong with a path, and how many bytes of it are left after the name where that shows.
+#[derive(Clone, Copy)]
+struct Lack {
+    wrong: Wrong,
+    left: usize,
+}
+
+// The value at a path.
+fn find<'v, 'a>(value: &'v Value<'a>, path: &str) -> Result<&'v Value<'a>, Lack> {
+    let (name, rest) = match path.split_once('.') {
+        Some((name, rest)) => (name, Some(rest)),
+        None => (path, None),
+    };
+    match (member_of(value, name), rest) {
+        (Ok(member), Some(rest)) => find(member, rest),
+        (Ok(member), None) => Ok(member),
+        (Err(wrong), _) => Err(Lack {
+            wrong,
+            left: path.len().saturating_sub(name.len()),
+        }),
     }
 }
 

@@ -112,10 +112,10 @@ fn range_of(message: Member<'_, '_>) -> Result<Range, Fault> {
 }
 
 /// A position of a list.
-pub fn position_in(
-    list: Member<'_, '_>,
+pub fn position_in<'v, 'a>(
+    list: Member<'v, 'a>,
     index: usize,
-    value: &Value<'_>,
+    value: &'v Value<'a>,
 ) -> Result<Position, Fault> {
     position_at(list.item(index, value), "line", "character")
 }

@@ -164,23 +164,7 @@ impl Session {
         message: Member<'_, '_>,
     ) -> Result<(), AllocError> {
         let before = self.outbox.bytes.len();
-        let outcome = match (self.phase, method) {
-            (Phase::Fresh, Method::Initialize) => self.initialize(id, message),
-            (Phase::Fresh, _) => Err(Failure::NotInitialized),
-            (Phase::Running, Method::Initialize) => Err(Failure::InitializedTwice),
-            (Phase::Running, Method::Shutdown) => self.shut_down(id),
-            (
-                Phase::Running,
-                Method::Exit
-                | Method::DidOpen
-                | Method::DidChange
-                | Method::DidClose
-                | Method::Other,
-            ) => Err(Failure::NoSuchRequest),
-            (Phase::Running, _) => self.answer_about_text(id, method, message),
-            (Phase::ShutDown | Phase::Ended | Phase::CutShort, _) => Err(Failure::ShutDown),
-        };
-        match outcome {
+        match self.answer(id, method, message) {
             Ok(()) => Ok(()),
             Err(failure) => {
                 if failure.is_of_memory() {
@@ -189,6 +173,26 @@ impl Session {
                 self.outbox.refuse(id, failure)
             }
         }
+    }
+
+    fn answer<'a>(&mut self, id: Id<'_>, method: Method, message: Member<'_, 'a>) -> Outcome<'a> {
+        let failure = match (self.phase, method) {
+            (Phase::Fresh, Method::Initialize) => return self.initialize(id, message),
+            (Phase::Fresh, _) => Failure::NotInitialized,
+            (Phase::Running, Method::Initialize) => Failure::InitializedTwice,
+            (Phase::Running, Method::Shutdown) => return self.shut_down(id),
+            (
+                Phase::Running,
+                Method::Exit
+                | Method::DidOpen
+                | Method::DidChange
+                | Method::DidClose
+                | Method::Other,
+            ) => Failure::NoSuchRequest,
+            (Phase::Running, _) => return self.answer_about_text(id, method, message),
+            (Phase::ShutDown | Phase::Ended | Phase::CutShort, _) => Failure::ShutDown,
+        };
+        Err(failure)
     }
 
     fn initialize<'a>(&mut self, id: Id<'_>, message: Member<'_, 'a>) -> Outcome<'a> {

@@ -63,7 +63,7 @@ pub fn change_all(
     document: &mut Document,
     changes: Vec<Change<'_>>,
 ) -> Result<usize, AllocError>
-    ensures { OnOk result (AreChanged encoding document.old changes.items document.new) }
+    ensures { OnOk result (AreChanged encoding document.old changes.entry.items document.new) }
 {
     let mut clipped = 0usize;
     for change in changes {
@@ -84,7 +84,7 @@ fn change_by(
     document: &mut Document,
     change: Change<'_>,
 ) -> Result<(), AllocError>
-    ensures { OnOk result (IsChanged encoding document.old change document.new) }
+    ensures { OnOk result (IsChanged encoding document.old change.entry document.new) }
 {
     let Change { range, text } = change;
     match range {
