@@ -196,7 +196,7 @@ impl<'v, 'a> Member<'v, 'a> {
     }
 }
 
-// What is wrong with a path, and how many bytes of it are left after the name where that shows.
+// What is wrong with a path, and how many bytes of it are left after the member that is wrong.
 #[derive(Clone, Copy)]
 struct Lack {
     wrong: Wrong,
@@ -214,7 +214,11 @@ fn find<'v, 'a>(value: &'v Value<'a>, path: &str) -> Result<&'v Value<'a>, Lack>
         (Ok(member), None) => Ok(member),
         (Err(wrong), _) => Err(Lack {
             wrong,
-            left: path.len().saturating_sub(name.len()),
+            left: match wrong {
+                // The value that has the path, and the dot after it.
+                Wrong::NotObject => path.len().saturating_add(1),
+                _ => path.len().saturating_sub(name.len()),
+            },
         }),
     }
 }
