@@ -68,16 +68,36 @@ fn of_tokens(shown: &mut Shown, call: &str, is_query: bool, text: &str) -> bool 
     for _ in 0..passed.parse::<usize>().unwrap_or(0) {
         tokens.next();
     }
+    match call {
+        "parse from" => parse_rest(shown, is_query, tokens, text),
+        "check from" => check_rest(shown, is_query, tokens, text),
+        _ => show(shown, &"no such call"),
+    }
+}
+
+// The answer of a parse over the tokens that are left of a text.
+fn parse_rest(shown: &mut Shown, is_query: bool, mut tokens: Tokens<'_>, text: &str) -> bool {
     if tokens.is_ended() {
         return show(shown, &"no tokens left");
     }
-    let alloc = shown.alloc();
-    let is_answered = match (call, is_query) {
-        ("parse from", true) => show_tree(shown, parse_query_from(alloc, &mut tokens)),
-        ("parse from", false) => show_tree(shown, parse_schema_from(alloc, &mut tokens)),
-        ("check from", true) => show_checked(shown, check_query_from(alloc, &mut tokens)),
-        ("check from", false) => show_checked(shown, check_schema_from(alloc, &mut tokens)),
-        _ => return show(shown, &"no such call"),
+    let is_answered = if is_query {
+        show_tree(shown, parse_query_from(shown.alloc(), &mut tokens))
+    } else {
+        show_tree(shown, parse_schema_from(shown.alloc(), &mut tokens))
+    };
+    show_taken(shown, is_answered, tokens, text);
+    is_answered
+}
+
+// The same of a check.
+fn check_rest(shown: &mut Shown, is_query: bool, mut tokens: Tokens<'_>, text: &str) -> bool {
+    if tokens.is_ended() {
+        return show(shown, &"no tokens left");
+    }
+    let is_answered = if is_query {
+        show_checked(shown, check_query_from(shown.alloc(), &mut tokens))
+    } else {
+        show_checked(shown, check_schema_from(shown.alloc(), &mut tokens))
     };
     show_taken(shown, is_answered, tokens, text);
     is_answered
