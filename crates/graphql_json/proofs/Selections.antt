@@ -8,9 +8,9 @@ use Rattle.graphql_parser.specs.trees.Request as request
 use Rattle.graphql_parser.specs.trees.RequestViews.{selection_step, field_step, inline_fragment_step, selection_set_step, field_tree, inline_fragment_tree, selection_tree, selection_set_tree, selection_trees, type_condition_tree}
 use Rattle.graphql_parser.specs.types.Pos.{Pos}
 use Rattle.graphql_parser.specs.types.Positioned.{Positioned}
-use Rattle.graphql_request_trees.specs.declared.executable.Field.{Field, out-Field, fold_out-Field}
-use Rattle.graphql_request_trees.specs.declared.executable.InlineFragment.{InlineFragment, out-InlineFragment, fold_out-InlineFragment}
-use Rattle.graphql_request_trees.specs.declared.executable.SelectionSet.{SelectionSet, out-SelectionSet, fold_out-SelectionSet}
+use Rattle.graphql_trees.specs.declared.executable.Field.{Field, out-Field, fold_out-Field}
+use Rattle.graphql_trees.specs.declared.executable.InlineFragment.{InlineFragment, out-InlineFragment, fold_out-InlineFragment}
+use Rattle.graphql_trees.specs.declared.executable.SelectionSet.{SelectionSet, out-SelectionSet, fold_out-SelectionSet}
 use Rattle.graphql_json.specs.declared.place.Place.{Place}
 use Rattle.graphql_json.specs.nodes.Requests.{selection_json, selections_json, set_node, some_of}
 use Rattle.graphql_json.specs.nodes.Nodes.{at}

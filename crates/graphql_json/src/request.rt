@@ -27,7 +27,7 @@ use std::alloc::AllocError;
 impl Node for ExecutableDocument {
     ghost form = { form document_tree document_json };
 
-    #[tactic(auto, using(graphql_request_trees::proofs::Requests::operations_walked))]
+    #[tactic(auto, using(graphql_trees::proofs::Requests::operations_walked))]
     fn write(&self, sheet: &mut Sheet, place: Place) -> Outcome {
         sheet.begin("Document", place)?;
         sheet.open_list("definitions")?;

@@ -1,6 +1,5 @@
 //! What the program prints of an accepted text: a line for each definition, with the place where it stands.
-use graphql_request_trees::ExecutableDocument;
-use graphql_schema_trees::{ServiceDocument, TypeKind, TypeSystemDefinition};
+use graphql_trees::{ExecutableDocument, ServiceDocument, TypeKind, TypeSystemDefinition};
 use graphql_syntax::types::OperationType;
 use graphql_tokens::pos::Pos;
 use std::alloc::{AllocError, Global};

@@ -18,7 +18,7 @@ use graphql_parser::types::{
 use graphql_parser::value::Name;
 
 /// The tree of a request: its operations, each with its name if it has one, and its fragments.
-#[tactic(auto, using(graphql_request_trees::proofs::Requests::operations_walked))]
+#[tactic(auto, using(graphql_trees::proofs::Requests::operations_walked))]
 pub fn pack_document(buffer: &mut Buffer, document: &ExecutableDocument) -> Outcome
     ensures { Adds result buffer.old buffer.new (request_bytes (document_tree document.now)) }
 {

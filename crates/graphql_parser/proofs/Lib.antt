@@ -1,5 +1,5 @@
 -- Lemmas for the proofs of callers: the equations of the trees of a request.
-pub use Rattle.graphql_request_trees.proofs.Requests
+pub use Rattle.graphql_trees.proofs.Requests
 -- Lemmas of the checks.
 pub mod Rests
 pub mod Parts

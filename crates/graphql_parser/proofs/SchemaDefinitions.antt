@@ -3,7 +3,7 @@ use Rattle.std.proofs.Common.{◌≡◌, ℕ, Bool, true, false, cond, Option, S
 use Rattle.std.specs.Option.{option_or}
 use Rattle.graphql_tokens.specs.declared.pos.Positioned.{Positioned}
 use Rattle.graphql_tokens.specs.tokens.Token.{Bare, Token}
-use Rattle.graphql_schema_trees.specs.trees.Schema.{Description}
+use Rattle.graphql_trees.specs.trees.Schema.{Description}
 use Rattle.graphql_syntax.specs.trees.Parts.{Directives}
 use Rattle.graphql_grammar.specs.answers.Breaches.{or_else}
 use Rattle.graphql_grammar.specs.declared.error.Error.{Error}

@@ -3,7 +3,7 @@ use Rattle.std.proofs.Common.{◌≡◌, ℕ, zero, suc, Bool, true, false, cond
 use Rattle.graphql_tokens.specs.declared.pos.Pos.{Pos}
 use Rattle.graphql_tokens.specs.declared.pos.Positioned.{Positioned}
 use Rattle.graphql_tokens.specs.tokens.Token.{Token}
-use Rattle.graphql_request_trees.specs.trees.Request.{Selection}
+use Rattle.graphql_trees.specs.trees.Request.{Selection}
 use Rattle.graphql_parser.specs.Checked.{rest_of}
 use Rattle.graphql_parser.specs.RequestHeads.{operation_head, head_of}
 use Rattle.graphql_parser.proofs.Rests.{is-read}

@@ -7,7 +7,7 @@ pub use Rattle.graphql_syntax.specs.trees.TypeTree
 pub use Rattle.graphql_syntax.specs.trees.ValueText
 pub use Rattle.graphql_syntax.specs.trees.ValueTree
 pub use Rattle.graphql_syntax.specs.trees.ValueViews
-pub use Rattle.graphql_request_trees.specs.trees.Request
-pub use Rattle.graphql_request_trees.specs.trees.RequestViews
-pub use Rattle.graphql_schema_trees.specs.trees.Schema
-pub use Rattle.graphql_schema_trees.specs.trees.SchemaViews
+pub use Rattle.graphql_trees.specs.trees.Request
+pub use Rattle.graphql_trees.specs.trees.RequestViews
+pub use Rattle.graphql_trees.specs.trees.Schema
+pub use Rattle.graphql_trees.specs.trees.SchemaViews

@@ -8,8 +8,8 @@ use Rattle.graphql_packed.specs.packed.Requests.{request_bytes}
 use Rattle.graphql_packed.specs.packed.Schemas.{schema_bytes}
 use Rattle.graphql_parser.specs.trees.RequestViews.{document_tree}
 use Rattle.graphql_parser.specs.trees.SchemaViews.{schema_document_tree}
-use Rattle.graphql_request_trees.specs.declared.executable.ExecutableDocument.{ExecutableDocument}
-use Rattle.graphql_schema_trees.specs.declared.service.ServiceDocument.{ServiceDocument}
+use Rattle.graphql_trees.specs.declared.executable.ExecutableDocument.{ExecutableDocument}
+use Rattle.graphql_trees.specs.declared.service.ServiceDocument.{ServiceDocument}
 use Rattle.json.specs.Json.{Json}
 
 abbrev pub executable_value : Places → ExecutableDocument → Json

@@ -5,7 +5,7 @@ use Rattle.std.specs.Str.{bytes_eq}
 use Rattle.graphql_tokens.specs.declared.pos.Pos.{Pos}
 use Rattle.graphql_tokens.specs.declared.pos.Positioned.{Positioned}
 use Rattle.graphql_syntax.specs.trees.Parts.{Name}
-use Rattle.graphql_request_trees.specs.trees.Request.{OperationDefinition, operations_of, Document}
+use Rattle.graphql_trees.specs.trees.Request.{OperationDefinition, operations_of, Document}
 use Rattle.graphql_reading.proofs.IgnoresPlaces.{head-is, tail-is}
 use Rattle.graphql_grammar.proofs.Unbroken.{not-nil}
 use Rattle.graphql_grammar.specs.answers.Answers.{AreUnbroken}

@@ -6,7 +6,7 @@ use Rattle.graphql_tokens.specs.declared.pos.Positioned.{Positioned}
 use Rattle.graphql_syntax.specs.declared.types.OperationType.{OperationType}
 use Rattle.graphql_syntax.specs.declared.types.OperationType.TheVariants.{Query, Mutation, Subscription}
 use Rattle.graphql_syntax.specs.trees.Parts.{placed}
-use Rattle.graphql_schema_trees.specs.trees.Schema as trees
+use Rattle.graphql_trees.specs.trees.Schema as trees
 use Rattle.graphql_reading.specs.grammar.Places.{nowhere}
 use Rattle.graphql_reading.proofs.IgnoresPlaces.{head-is, tail-is}
 use Rattle.graphql_grammar.specs.answers.Answers.{AreUnbroken}

@@ -8,7 +8,7 @@ use Rattle.graphql_tokens.specs.tokens.Token.{Bare}
 use Rattle.graphql_syntax.specs.trees.Parts.{Name, Arguments, Directive, Directives}
 use Rattle.graphql_syntax.specs.calls.Words.{operation_word}
 use Rattle.graphql_syntax.specs.trees.ValueTree.{Tree}
-use Rattle.graphql_request_trees.specs.trees.Request.{VariableDefinition, Selection, field, fragment_spread, inline_fragment, SelectionSet, no_selections, selection_and, OperationDefinition}
+use Rattle.graphql_trees.specs.trees.Request.{VariableDefinition, Selection, field, fragment_spread, inline_fragment, SelectionSet, no_selections, selection_and, OperationDefinition}
 use Rattle.graphql_grammar.specs.grammar.Placeless.{unplaced, bare_node, placeless_argument, placeless_directive, placeless_directives}
 use Rattle.graphql_requests.specs.grammar.Placeless.{placeless_variable, placeless_condition, placeless_selection, placeless_set, placeless_operation, placeless_definition}
 use Rattle.graphql_requests.specs.grammar.Request.{Definition, operation, fragment}

@@ -3,7 +3,7 @@ use Rattle.std.proofs.Common.{◌≡◌, List, [], ◌∷◌, ◌++◌, map, cod
 use Rattle.graphql_tokens.specs.declared.pos.Positioned.{Positioned}
 use Rattle.graphql_tokens.specs.tokens.Token.{Bare}
 use Rattle.graphql_syntax.specs.trees.Parts.{Name}
-use Rattle.graphql_schema_trees.specs.trees.Schema.{Description, InputValueDefinition, InputValues, FieldDefinition, EnumValueDefinition, TypeKind, scalar, object, interface, union, enumeration, input_object, TypeDefinition, DirectiveDefinition}
+use Rattle.graphql_trees.specs.trees.Schema.{Description, InputValueDefinition, InputValues, FieldDefinition, EnumValueDefinition, TypeKind, scalar, object, interface, union, enumeration, input_object, TypeDefinition, DirectiveDefinition}
 use Rattle.graphql_grammar.specs.grammar.Placeless.{unplaced, bare_node}
 use Rattle.graphql_schemas.specs.grammar.Placeless.{placeless_description, placeless_input_value, placeless_input_values, placeless_field, placeless_enum_value, placeless_kind, placeless_type, placeless_directive_definition}
 use Rattle.graphql_printer.specs.inner.Shown.{sign, word, shown_node, shown_type}

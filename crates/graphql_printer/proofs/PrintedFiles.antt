@@ -11,9 +11,9 @@ use Rattle.graphql_layout.specs.texts.SameTokens.{HasTokens}
 use Rattle.graphql_reading.specs.grammar.Limits.{Limits}
 use Rattle.graphql_grammar.specs.answers.Answers.{AreUnbroken}
 use Rattle.graphql_grammar.proofs.Alike.{break-alike}
-use Rattle.graphql_schema_trees.specs.declared.service.ServiceDocument.{ServiceDocument}
-use Rattle.graphql_schema_trees.specs.trees.Schema.{Document}
-use Rattle.graphql_schema_trees.specs.trees.SchemaViews.{schema_document_tree}
+use Rattle.graphql_trees.specs.declared.service.ServiceDocument.{ServiceDocument}
+use Rattle.graphql_trees.specs.trees.Schema.{Document}
+use Rattle.graphql_trees.specs.trees.SchemaViews.{schema_document_tree}
 use Rattle.graphql_schemas.specs.grammar.Documents.{document_of}
 use Rattle.graphql_schemas.specs.grammar.Placeless.{placeless_definitions}
 use Rattle.graphql_schemas.specs.grammar.SchemaFile.{Definition, definitions}

@@ -6,8 +6,8 @@ use Rattle.std.specs.Str.{IsUtf8}
 use Rattle.graphql_tokens.specs.tokens.Cuts.{IsCutInto}
 use Rattle.graphql_tokens.specs.tokens.Edition.{Current}
 use Rattle.graphql_tokens.specs.tokens.Token.{Bare, Token}
-use Rattle.graphql_request_trees.specs.declared.executable.ExecutableDocument.{ExecutableDocument}
-use Rattle.graphql_request_trees.specs.trees.RequestViews.{document_tree}
+use Rattle.graphql_trees.specs.declared.executable.ExecutableDocument.{ExecutableDocument}
+use Rattle.graphql_trees.specs.trees.RequestViews.{document_tree}
 use Rattle.graphql_reading.specs.grammar.Limits.{Limits}
 use Rattle.graphql_reading.proofs.IgnoresPlaces.{head-is, tail-is}
 use Rattle.graphql_reading.proofs.Optional.{plus-star}

@@ -8,10 +8,10 @@ use Rattle.graphql_tokens.specs.declared.pos.Pos.{Pos}
 use Rattle.graphql_tokens.specs.declared.pos.Positioned.{Positioned}
 use Rattle.graphql_tokens.specs.tokens.Token.{Bare}
 use Rattle.graphql_syntax.specs.trees.Parts.{placed}
-use Rattle.graphql_request_trees.proofs.Requests.{set_tree_out}
-use Rattle.graphql_request_trees.specs.declared.executable.SelectionSet.{SelectionSet, out-SelectionSet}
-use Rattle.graphql_request_trees.specs.trees.Request as request
-use Rattle.graphql_request_trees.specs.trees.RequestViews.{selection_tree, selection_set_tree, selection_trees}
+use Rattle.graphql_trees.proofs.Requests.{set_tree_out}
+use Rattle.graphql_trees.specs.declared.executable.SelectionSet.{SelectionSet, out-SelectionSet}
+use Rattle.graphql_trees.specs.trees.Request as request
+use Rattle.graphql_trees.specs.trees.RequestViews.{selection_tree, selection_set_tree, selection_trees}
 use Rattle.graphql_requests.specs.grammar.Request.{Definition}
 use Rattle.graphql_printer.specs.inner.Places.{stands_before}
 use Rattle.graphql_printer.specs.inner.Shown.{sign}

@@ -4,7 +4,7 @@ use Rattle.graphql_tokens.specs.declared.pos.Positioned.{Positioned}
 use Rattle.graphql_tokens.specs.tokens.Edition.{Current}
 use Rattle.graphql_tokens.specs.tokens.Token.{Bare, Token}
 use Rattle.graphql_syntax.specs.trees.Parts.{Directives}
-use Rattle.graphql_schema_trees.specs.trees.Schema.{Names, FieldDefinition, object, interface, union, enumeration, input_object}
+use Rattle.graphql_trees.specs.trees.Schema.{Names, FieldDefinition, object, interface, union, enumeration, input_object}
 use Rattle.graphql_reading.specs.grammar.Limits.{Limits}
 use Rattle.graphql_reading.specs.grammar.Relations.{Rel, ◌∪◌, mapped, given}
 use Rattle.graphql_reading.proofs.IgnoresPlaces.{map-given}

@@ -7,7 +7,7 @@ use Rattle.graphql_tokens.specs.declared.pos.Positioned.{Positioned}
 use Rattle.graphql_tokens.specs.tokens.Edition.{Current}
 use Rattle.graphql_tokens.specs.tokens.Token.{Bare, Token}
 use Rattle.graphql_syntax.specs.trees.Parts.{Directives, placed}
-use Rattle.graphql_schema_trees.specs.trees.Schema.{Description, InputValues, DirectiveDefinition}
+use Rattle.graphql_trees.specs.trees.Schema.{Description, InputValues, DirectiveDefinition}
 use Rattle.graphql_reading.specs.grammar.Fronts.{without_place}
 use Rattle.graphql_reading.specs.grammar.Limits.{Limits}
 use Rattle.graphql_reading.specs.grammar.Relations.{Rel, plus, star, cons, given, between_of}

@@ -7,7 +7,7 @@ use Rattle.graphql_tokens.specs.tokens.Edition.{Current}
 use Rattle.graphql_tokens.specs.tokens.Token.{Bare, Token}
 use Rattle.graphql_syntax.specs.trees.Parts.{Directives}
 use Rattle.graphql_syntax.specs.trees.TypeTree.{TypeTree}
-use Rattle.graphql_schema_trees.specs.trees.Schema.{Description, InputValues, FieldDefinition}
+use Rattle.graphql_trees.specs.trees.Schema.{Description, InputValues, FieldDefinition}
 use Rattle.graphql_reading.specs.grammar.Fronts.{bares, without_place}
 use Rattle.graphql_reading.specs.grammar.Limits.{Limits}
 use Rattle.graphql_reading.specs.grammar.Places.{nowhere}

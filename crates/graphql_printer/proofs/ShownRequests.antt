@@ -8,7 +8,7 @@ use Rattle.graphql_tokens.specs.tokens.Token.{Bare, Token}
 use Rattle.graphql_syntax.specs.declared.types.OperationType.{OperationType}
 use Rattle.graphql_syntax.specs.declared.types.OperationType.TheVariants.{Query, Mutation, Subscription}
 use Rattle.graphql_syntax.specs.trees.Parts.{Name, Arguments, Directives}
-use Rattle.graphql_request_trees.specs.trees.Request.{VariableDefinition, TypeCondition, Selection, SelectionSet, selection_and, set_of}
+use Rattle.graphql_trees.specs.trees.Request.{VariableDefinition, TypeCondition, Selection, SelectionSet, selection_and, set_of}
 use Rattle.graphql_reading.specs.grammar.Fronts.{without_place}
 use Rattle.graphql_reading.specs.grammar.Limits.{Limits}
 use Rattle.graphql_reading.specs.grammar.Places.{at, nowhere}

@@ -1,8 +1,8 @@
 //! Requests, printed as tokens.
 ghost use Rattle.std.specs.Prelude.{◌≡◌, ◌++◌, ◌∷◌, [], List, IfOk, OnOk, string_bytes, codes, map, drop, flat_map, option_map};
 ghost use Rattle.graphql_syntax.specs.trees.Parts.{placed};
-ghost use Rattle.graphql_request_trees.specs.trees.Request.{of_field, of_inline_fragment};
-ghost use Rattle.graphql_request_trees.specs.trees.RequestViews.{document_tree, entry_tree, field_tree, fragment_spread_tree, fragment_tree, inline_fragment_tree, operation_tree, selection_tree, selection_set_tree, type_condition_tree, variable_definition_tree};
+ghost use Rattle.graphql_trees.specs.trees.Request.{of_field, of_inline_fragment};
+ghost use Rattle.graphql_trees.specs.trees.RequestViews.{document_tree, entry_tree, field_tree, fragment_spread_tree, fragment_tree, inline_fragment_tree, operation_tree, selection_tree, selection_set_tree, type_condition_tree, variable_definition_tree};
 ghost use Rattle.graphql_requests.specs.grammar.Documents.{document_of};
 ghost use Rattle.graphql_requests.specs.grammar.Request.{Definition};
 ghost use Rattle.graphql_requests.specs.grammar.Requests.{requests};
@@ -17,7 +17,7 @@ use crate::parts::{operation_word, print_arguments, print_default};
 use crate::places::stands_before;
 use crate::widths::is_long;
 use crate::writer::Writer;
-use graphql_request_trees::{
+use graphql_trees::{
     ExecutableDocument, Field, FragmentDefinition, FragmentSpread, InlineFragment, NameMap,
     OperationDefinition, Selection, SelectionSet, TypeCondition, VariableDefinition,
 };
@@ -48,7 +48,7 @@ pub fn print_query(alloc: Global, document: &ExecutableDocument) -> Result<Strin
 
 // Prints a request: its operations in their order and its fragments in theirs, each operation after the fragments whose
 // places are smaller.
-#[tactic(auto, using(graphql_request_trees::proofs::Requests::operations_walked))]
+#[tactic(auto, using(graphql_trees::proofs::Requests::operations_walked))]
 fn print_request(out: &mut Writer, document: &ExecutableDocument) -> Outcome
     ensures { Prints result out.old out.new
         (shown_request (document_tree document.now)) }

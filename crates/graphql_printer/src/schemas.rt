@@ -3,7 +3,7 @@ ghost use Rattle.std.specs.Prelude.{◌≡◌, [], IfOk, option_map, string_byte
 ghost use Rattle.std.specs.Str.{chars};
 ghost use Rattle.graphql_layout.specs.texts.Blocks.{may_be_block as may_be_block_of};
 ghost use Rattle.graphql_syntax.specs.trees.Parts.{placed};
-ghost use Rattle.graphql_schema_trees.specs.trees.SchemaViews.{definition_tree, directive_definition_tree, enum_value_tree, field_definition_tree, input_value_tree, kind_tree, schema_definition_tree, schema_document_tree, type_definition_tree};
+ghost use Rattle.graphql_trees.specs.trees.SchemaViews.{definition_tree, directive_definition_tree, enum_value_tree, field_definition_tree, input_value_tree, kind_tree, schema_definition_tree, schema_document_tree, type_definition_tree};
 ghost use Rattle.graphql_schemas.specs.grammar.Documents.{document_of};
 ghost use Rattle.graphql_schemas.specs.grammar.Schemas.{schemas};
 ghost use Rattle.graphql_printer.specs.Controls.{HasClearTokens};

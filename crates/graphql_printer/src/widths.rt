@@ -1,5 +1,5 @@
 //! How long fields are on one line.
-use graphql_request_trees::Field;
+use graphql_trees::Field;
 use graphql_syntax::value::{Name, Value};
 use graphql_tokens::pos::Positioned;
 

@@ -14,7 +14,7 @@ use Rattle.graphql_tokens.specs.declared.lexer.TokenKind.TheVariants.{Punct, Nam
 use Rattle.graphql_reading.specs.grammar.Limits.{Limits}
 use Rattle.graphql_reading.specs.grammar.Tests.{is_among}
 use Rattle.graphql_reading.proofs.TokenTests.{name-spells}
-use Rattle.graphql_schema_trees.specs.declared.service.DirectiveLocation.{DirectiveLocation}
+use Rattle.graphql_trees.specs.declared.service.DirectiveLocation.{DirectiveLocation}
 use Rattle.graphql_schemas.specs.grammar.Directives.{IsLocation}
 use Rattle.graphql_schemas.specs.reading.Directives.{location_named}
 use Rattle.graphql_schemas.proofs.LocationProductions.{location-decides}

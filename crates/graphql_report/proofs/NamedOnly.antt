@@ -13,7 +13,7 @@ use Rattle.graphql_tokens.specs.declared.lexer.TokenKind.{TokenKind}
 use Rattle.graphql_tokens.specs.declared.lexer.TokenKind.TheVariants.{Punct, Name, Number, String as Quoted, End}
 use Rattle.graphql_reading.specs.grammar.Limits.{Limits}
 use Rattle.graphql_reading.proofs.TokenTests.{are-ascii, punct-spells, name-spells}
-use Rattle.graphql_schema_trees.specs.declared.service.DirectiveLocation.TheVariants as locations
+use Rattle.graphql_trees.specs.declared.service.DirectiveLocation.TheVariants as locations
 use Rattle.graphql_report.specs.declared.fronts.Language.{Language}
 use Rattle.graphql_report.specs.fronts.Front.{LastIsLineFeed}
 use Rattle.graphql_report.specs.reports.Expected.{TellsFrontOf, HasTreeOf, with_sample, Samples, in_quotes, name_text, literals, punctuators, keyword_words, location_name, keywords, name_name, value_name, end_name, AreTaken, value_names, AreExpected}

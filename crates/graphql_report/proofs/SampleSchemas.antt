@@ -7,8 +7,8 @@ use Rattle.graphql_reading.specs.grammar.Limits.{Limits}
 use Rattle.graphql_reading.specs.grammar.Relations.{Rel}
 use Rattle.graphql_reading.specs.grammar.Tests.{keyword, any_name}
 use Rattle.graphql_reading.proofs.TokenTests.{any_name-is}
-use Rattle.graphql_schema_trees.specs.declared.service.DirectiveLocation.{DirectiveLocation}
-use Rattle.graphql_schema_trees.specs.declared.service.DirectiveLocation.TheVariants as locations
+use Rattle.graphql_trees.specs.declared.service.DirectiveLocation.{DirectiveLocation}
+use Rattle.graphql_trees.specs.declared.service.DirectiveLocation.TheVariants as locations
 use Rattle.graphql_schemas.specs.grammar.Descriptions.{a_description}
 use Rattle.graphql_schemas.specs.grammar.Directives.{IsLocation, a_location, a_directive_definition}
 use Rattle.graphql_schemas.specs.grammar.Fields.{fields}

@@ -11,7 +11,7 @@ use Rattle.graphql_reading.specs.grammar.Tests.{Test, is_among, punct, keyword, 
 use Rattle.graphql_reading.proofs.IgnoresPlaces.{head-is, tail-is}
 use Rattle.graphql_reading.proofs.TokenTests.{word_of, punct-is, keyword-is, any_name-is, name_but-is, the_end-is}
 use Rattle.graphql_schemas.specs.grammar.Directives.{IsLocation}
-use Rattle.graphql_schema_trees.specs.declared.service.DirectiveLocation.{DirectiveLocation}
+use Rattle.graphql_trees.specs.declared.service.DirectiveLocation.{DirectiveLocation}
 use Rattle.graphql_report.specs.reports.Expected.{keyword_words}
 use Prim.Native.String.{String}
 

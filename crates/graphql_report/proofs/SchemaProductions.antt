@@ -10,7 +10,7 @@ use Rattle.graphql_grammar.specs.reading.Arguments.{directives_at, maybe_default
 use Rattle.graphql_schemas.specs.declared.types.Word.{Word}
 use Rattle.graphql_schemas.specs.declared.types.Word.TheVariants as kinds
 use Rattle.graphql_reading.specs.grammar.Places.{name_of}
-use Rattle.graphql_schema_trees.specs.declared.service.DirectiveLocation.{DirectiveLocation}
+use Rattle.graphql_trees.specs.declared.service.DirectiveLocation.{DirectiveLocation}
 use Rattle.graphql_schemas.specs.grammar.Directives.{location_of}
 use Rattle.graphql_schemas.specs.grammar.Fields.{field_definition_of}
 use Rattle.graphql_schemas.specs.grammar.InputValues.{input_value_of}

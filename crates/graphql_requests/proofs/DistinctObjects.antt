@@ -5,7 +5,7 @@ use Rattle.graphql_tokens.specs.declared.pos.Positioned.{Positioned}
 use Rattle.graphql_tokens.specs.tokens.Edition.{Current}
 use Rattle.graphql_tokens.specs.tokens.Token.{Token}
 use Rattle.graphql_syntax.specs.trees.Parts.{Name, Directives}
-use Rattle.graphql_request_trees.specs.trees.Request.{VariableDefinition, Selection, set_of, OperationDefinition}
+use Rattle.graphql_trees.specs.trees.Request.{VariableDefinition, Selection, set_of, OperationDefinition}
 use Rattle.graphql_grammar.specs.answers.Language.{grammar}
 use Rattle.graphql_grammar.specs.grammar.Distinct.{IsDistinctValue, IsDistinctDefault, AreDistinctArguments, AreDistinctDirectives}
 use Rattle.graphql_grammar.specs.grammar.Operations.{operation_type}

@@ -4,7 +4,7 @@ use Rattle.graphql_tokens.specs.declared.pos.Pos.{Pos}
 use Rattle.graphql_tokens.specs.declared.pos.Positioned.{Positioned}
 use Rattle.graphql_tokens.specs.tokens.Token.{Token}
 use Rattle.graphql_syntax.specs.trees.Parts.{placed, Name, Arguments, Directives}
-use Rattle.graphql_request_trees.specs.trees.Request.{TypeCondition, Selection}
+use Rattle.graphql_trees.specs.trees.Request.{TypeCondition, Selection}
 use Rattle.graphql_reading.specs.grammar.Relations.{given}
 use Rattle.graphql_reading.specs.grammar.Fronts.{syntax, limit}
 use Rattle.graphql_reading.specs.grammar.Places.{name_of}

@@ -6,10 +6,10 @@ use Rattle.std.specs.Str.{bytes_eq}
 use Rattle.graphql_tokens.specs.declared.pos.Pos.{Pos}
 use Rattle.graphql_tokens.specs.declared.pos.Positioned.{Positioned}
 use Rattle.graphql_tokens.specs.tokens.Token.{Token}
-use Rattle.graphql_request_trees.specs.declared.executable.ExecutableDocument.{ExecutableDocument}
+use Rattle.graphql_trees.specs.declared.executable.ExecutableDocument.{ExecutableDocument}
 use Rattle.graphql_syntax.specs.trees.Parts.{Name}
-use Rattle.graphql_request_trees.specs.trees.Request.{OperationDefinition, FragmentDefinition, Operations, single, multiple}
-use Rattle.graphql_request_trees.specs.trees.RequestViews.{document_tree}
+use Rattle.graphql_trees.specs.trees.Request.{OperationDefinition, FragmentDefinition, Operations, single, multiple}
+use Rattle.graphql_trees.specs.trees.RequestViews.{document_tree}
 use Rattle.graphql_grammar.specs.answers.Answers.{Answers, AreUnbroken, IsDocument}
 use Rattle.graphql_grammar.specs.declared.error.Error.{Error}
 use Rattle.graphql_grammar.specs.declared.error.Error.TheVariants.{MultipleOperations, OperationDuplicated, FragmentDuplicated}

@@ -5,8 +5,8 @@ use Rattle.std.specs.Str.{bytes_eq}
 use Rattle.graphql_tokens.specs.declared.pos.Pos.{Pos}
 use Rattle.graphql_tokens.specs.declared.pos.Positioned.{Positioned}
 use Rattle.graphql_syntax.specs.trees.Parts.{Name, placed}
-use Rattle.graphql_request_trees.specs.trees.Request.{OperationDefinition, FragmentDefinition, single, multiple}
-use Rattle.graphql_request_trees.specs.trees.RequestViews.{entry_tree}
+use Rattle.graphql_trees.specs.trees.Request.{OperationDefinition, FragmentDefinition, single, multiple}
+use Rattle.graphql_trees.specs.trees.RequestViews.{entry_tree}
 use Rattle.indexmap.specs.IndexMap.{insert_entry}
 use Rattle.graphql_grammar.specs.answers.Breaches.{or_else}
 use Rattle.graphql_requests.specs.grammar.Documents.{named_operations, fragments, operations_beside}

@@ -5,7 +5,7 @@ use Rattle.std.proofs.lemmas.List.{take_all, drop_all, take-append-le, drop-appe
 use Rattle.graphql_tokens.specs.declared.pos.Pos.{Pos}
 use Rattle.graphql_tokens.specs.declared.pos.Positioned.{Positioned}
 use Rattle.graphql_tokens.specs.tokens.Token.{Token}
-use Rattle.graphql_request_trees.specs.trees.Request.{Selection}
+use Rattle.graphql_trees.specs.trees.Request.{Selection}
 use Rattle.graphql_reading.specs.declared.parser.Refusal.{Refusal}
 use Rattle.graphql_requests.specs.declared.selections.OpenSet.{OpenSet}
 use Rattle.graphql_reading.specs.grammar.Fronts.{Verdict}

@@ -4,7 +4,7 @@ use Rattle.graphql_tokens.specs.declared.pos.Positioned.{Positioned}
 use Rattle.graphql_syntax.specs.declared.types.OperationType.{OperationType}
 use Rattle.graphql_tokens.specs.tokens.Token.{Token}
 use Rattle.graphql_syntax.specs.trees.Parts.{Name, Directives}
-use Rattle.graphql_request_trees.specs.trees.Request.{VariableDefinition}
+use Rattle.graphql_trees.specs.trees.Request.{VariableDefinition}
 use Rattle.graphql_reading.specs.grammar.Relations.{given}
 use Rattle.graphql_reading.specs.grammar.Fronts.{syntax}
 use Rattle.graphql_reading.specs.grammar.Limits.{Limits}

@@ -5,7 +5,7 @@ use Rattle.graphql_syntax.specs.declared.types.OperationType.{OperationType}
 use Rattle.graphql_tokens.specs.tokens.Edition.{Current}
 use Rattle.graphql_tokens.specs.tokens.Token.{Token}
 use Rattle.graphql_syntax.specs.trees.Parts.{Directives}
-use Rattle.graphql_request_trees.specs.trees.Request.{VariableDefinition}
+use Rattle.graphql_trees.specs.trees.Request.{VariableDefinition}
 use Rattle.graphql_reading.specs.grammar.Tests.{Test, punct, keyword, any_name, the_end}
 use Rattle.graphql_reading.specs.grammar.Limits.{Limits}
 use Rattle.graphql_reading.specs.grammar.Relations.{Rel, one, ◌⨾◌, ◌∪◌, opt}

@@ -4,7 +4,7 @@ use Rattle.graphql_tokens.specs.declared.pos.Positioned.{Positioned}
 use Rattle.graphql_tokens.specs.tokens.Edition.{Current}
 use Rattle.graphql_tokens.specs.tokens.Token.{Token}
 use Rattle.graphql_syntax.specs.trees.Parts.{Arguments, Directives}
-use Rattle.graphql_request_trees.specs.trees.Request.{TypeCondition, Selection, SelectionSet, set_of}
+use Rattle.graphql_trees.specs.trees.Request.{TypeCondition, Selection, SelectionSet, set_of}
 use Rattle.graphql_reading.specs.grammar.Tests.{punct, keyword, any_name}
 use Rattle.graphql_reading.specs.grammar.Limits.{Limits}
 use Rattle.graphql_reading.specs.grammar.Places.{nowhere}

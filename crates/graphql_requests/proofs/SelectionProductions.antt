@@ -5,7 +5,7 @@ use Rattle.graphql_tokens.specs.tokens.Edition.{Current}
 use Rattle.graphql_tokens.specs.tokens.Token.{Token}
 use Rattle.graphql_tokens.specs.tokens.Proper.{IsProper}
 use Rattle.graphql_syntax.specs.trees.Parts.{Arguments, Directives}
-use Rattle.graphql_request_trees.specs.trees.Request.{Selection}
+use Rattle.graphql_trees.specs.trees.Request.{Selection}
 use Rattle.graphql_reading.specs.grammar.Tests.{Test, punct, keyword, any_name}
 use Rattle.graphql_reading.specs.grammar.Limits.{Limits}
 use Rattle.graphql_reading.specs.grammar.Relations.{Rel, one, never, ◌⨾◌, ◌∪◌, mapped, plus, opt}

@@ -1,17 +1,17 @@
 -- The trees of selections that the code makes and changes.
 use Rattle.std.proofs.Common.{◌≡◌, ℕ, zero, suc, List, [], ◌∷◌, length, sym, ap, ◌∙◌, slice_set, slice_index_or, arith}
 use Rattle.graphql_tokens.specs.declared.pos.Positioned.{Positioned}
-use Rattle.graphql_request_trees.specs.declared.executable.Field.{Field, out-Field, roll-Field, fold-roll-Field, fold_out-Field}
-use Rattle.graphql_request_trees.specs.declared.executable.InlineFragment.{InlineFragment, out-InlineFragment, roll-InlineFragment, fold-roll-InlineFragment, fold_out-InlineFragment}
-use Rattle.graphql_request_trees.specs.declared.executable.FragmentSpread.{FragmentSpread}
-use Rattle.graphql_request_trees.specs.declared.executable.Selection.{Selection, fold-roll-Selection}
-use Rattle.graphql_request_trees.specs.declared.executable.Selection.TheOpen.{Selection-F}
-use Rattle.graphql_request_trees.specs.declared.executable.Selection.TheVariants as selections
-use Rattle.graphql_request_trees.specs.declared.executable.Selection.TheViews.{rolls-Field, rolls-FragmentSpread, rolls-InlineFragment}
-use Rattle.graphql_request_trees.specs.declared.executable.SelectionSet.{SelectionSet}
-use Rattle.graphql_request_trees.specs.trees.Request as request
+use Rattle.graphql_trees.specs.declared.executable.Field.{Field, out-Field, roll-Field, fold-roll-Field, fold_out-Field}
+use Rattle.graphql_trees.specs.declared.executable.InlineFragment.{InlineFragment, out-InlineFragment, roll-InlineFragment, fold-roll-InlineFragment, fold_out-InlineFragment}
+use Rattle.graphql_trees.specs.declared.executable.FragmentSpread.{FragmentSpread}
+use Rattle.graphql_trees.specs.declared.executable.Selection.{Selection, fold-roll-Selection}
+use Rattle.graphql_trees.specs.declared.executable.Selection.TheOpen.{Selection-F}
+use Rattle.graphql_trees.specs.declared.executable.Selection.TheVariants as selections
+use Rattle.graphql_trees.specs.declared.executable.Selection.TheViews.{rolls-Field, rolls-FragmentSpread, rolls-InlineFragment}
+use Rattle.graphql_trees.specs.declared.executable.SelectionSet.{SelectionSet}
+use Rattle.graphql_trees.specs.trees.Request as request
 use Rattle.graphql_syntax.specs.trees.Parts.{placed}
-use Rattle.graphql_request_trees.specs.trees.RequestViews.{selection_step, field_step, inline_fragment_step, selection_set_step, selection_tree, field_tree, fragment_spread_tree, inline_fragment_tree, selection_set_tree, selection_trees}
+use Rattle.graphql_trees.specs.trees.RequestViews.{selection_step, field_step, inline_fragment_step, selection_set_step, selection_tree, field_tree, fragment_spread_tree, inline_fragment_tree, selection_set_tree, selection_trees}
 use Rattle.graphql_requests.specs.grammar.Selections.{Set}
 use Rattle.graphql_requests.specs.reading.SelectionSteps.{with_set, fill_last}
 

@@ -5,14 +5,14 @@ use Rattle.std.specs.Str.{bytes_eq}
 use Rattle.std.proofs.lemmas.List.{append-nil}
 use Rattle.graphql_tokens.specs.declared.pos.Pos.{Pos}
 use Rattle.graphql_tokens.specs.declared.pos.Positioned.{Positioned}
-use Rattle.graphql_request_trees.specs.declared.executable.OperationDefinition.{OperationDefinition}
-use Rattle.graphql_request_trees.specs.declared.executable.FragmentDefinition.{FragmentDefinition}
-use Rattle.graphql_request_trees.specs.declared.executable.DocumentOperations.{DocumentOperations}
-use Rattle.graphql_request_trees.specs.declared.executable.DocumentOperations.TheVariants.{Single, Multiple}
+use Rattle.graphql_trees.specs.declared.executable.OperationDefinition.{OperationDefinition}
+use Rattle.graphql_trees.specs.declared.executable.FragmentDefinition.{FragmentDefinition}
+use Rattle.graphql_trees.specs.declared.executable.DocumentOperations.{DocumentOperations}
+use Rattle.graphql_trees.specs.declared.executable.DocumentOperations.TheVariants.{Single, Multiple}
 use Rattle.graphql_syntax.specs.trees.Parts.{Name, placed}
-use Rattle.graphql_request_trees.specs.trees.Request.{multiple}
-use Rattle.graphql_request_trees.specs.trees.Request as request
-use Rattle.graphql_request_trees.specs.trees.RequestViews.{operation_tree, fragment_tree, entry_tree, operations_tree}
+use Rattle.graphql_trees.specs.trees.Request.{multiple}
+use Rattle.graphql_trees.specs.trees.Request as request
+use Rattle.graphql_trees.specs.trees.RequestViews.{operation_tree, fragment_tree, entry_tree, operations_tree}
 use Rattle.graphql_requests.specs.declared.rules.Sorted.{Sorted}
 use Rattle.graphql_requests.specs.grammar.Documents.{named_operations, fragments, operations_beside}
 use Rattle.graphql_requests.specs.grammar.Request.{Definition, operation, fragment}

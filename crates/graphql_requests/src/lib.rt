@@ -18,7 +18,7 @@ ghost use Rattle.graphql_grammar.specs.answers.Memory.{most_taken};
 ghost use Rattle.graphql_grammar.specs.answers.Reads.{ReadsText, ReadsTokens};
 ghost use Rattle.graphql_grammar.specs.declared.error.Error.TheVariants.{OutOfMemory};
 ghost use Rattle.graphql_reading.specs.grammar.Limits.{default_limits};
-ghost use Rattle.graphql_request_trees.specs.trees.RequestViews.{document_tree};
+ghost use Rattle.graphql_trees.specs.trees.RequestViews.{document_tree};
 ghost use Rattle.graphql_requests.specs.grammar.Laws.{IsLawful};
 ghost use Rattle.graphql_requests.specs.grammar.Requests.{requests};
 
@@ -32,7 +32,7 @@ use graphql_grammar::document::read_document;
 use graphql_grammar::error::Result;
 use graphql_memory::Memory;
 use graphql_reading::limits::Limits;
-use graphql_request_trees::ExecutableDocument;
+use graphql_trees::ExecutableDocument;
 use graphql_tokens::lexer::Tokens;
 use rules::KeptDefinitions;
 use std::alloc::Global;

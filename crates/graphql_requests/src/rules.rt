@@ -4,7 +4,7 @@ ghost use Rattle.graphql_memory.specs.Memory.{Refused, Takes};
 ghost use Rattle.graphql_requests.specs.reading.SelectionFunds.{definition_bytes};
 ghost use Rattle.graphql_reading.specs.reading.Worth.{worth};
 ghost use Rattle.graphql_grammar.specs.declared.error.Error.TheVariants.{OutOfMemory};
-ghost use Rattle.graphql_request_trees.specs.trees.RequestViews.{operation_tree, fragment_tree};
+ghost use Rattle.graphql_trees.specs.trees.RequestViews.{operation_tree, fragment_tree};
 ghost use Rattle.graphql_syntax.specs.trees.Parts.{placed};
 ghost use Rattle.graphql_requests.specs.grammar.Request.{Definition as SpecDefinition, operation as an_operation, fragment as a_fragment};
 ghost use Rattle.graphql_grammar.specs.answers.Breaches.{or_else};
@@ -22,7 +22,7 @@ use graphql_memory::Memory;
 use graphql_reading::limits::Limits;
 use graphql_reading::parser::{Parser, Reading};
 use graphql_reading::production::one_or_more;
-use graphql_request_trees::{
+use graphql_trees::{
     DocumentOperations, ExecutableDocument, FragmentDefinition, NameMap, OperationDefinition,
 };
 use graphql_syntax::pos::{Pos, Positioned};

@@ -3,7 +3,7 @@ ghost use Rattle.std.specs.Prelude.{◌≡◌};
 ghost use Rattle.graphql_requests.specs.reading.Seeds.{document_seed};
 
 use crate::definitions::Definition;
-use graphql_request_trees::NameSeed;
+use graphql_trees::NameSeed;
 use std::hash::{DefaultHasher, Hash, Hasher};
 
 // Among so few, names that collide cost next to nothing, and a digest would cost more.

@@ -3,7 +3,7 @@ ghost use Rattle.std.specs.Prelude.{◌≡◌, ◌≤◌, ◌-◌, ◌*◌, take
 ghost use Rattle.std.specs.Vec.{vec_len};
 ghost use Rattle.graphql_memory.specs.Memory.{Refused, Takes, bytes, credit};
 ghost use Rattle.graphql_syntax.specs.trees.Parts.{placed};
-ghost use Rattle.graphql_request_trees.specs.trees.RequestViews.{selection_trees, selection_set_tree};
+ghost use Rattle.graphql_trees.specs.trees.RequestViews.{selection_trees, selection_set_tree};
 ghost use Rattle.graphql_reading.specs.reading.Ahead.{Stays};
 ghost use Rattle.graphql_reading.specs.reading.Funds.{Pays};
 ghost use Rattle.graphql_reading.specs.reading.Worth.{per_token};
@@ -17,7 +17,7 @@ mod heads;
 
 use graphql_reading::limits::Limits;
 use graphql_reading::parser::{Parser, Reading};
-use graphql_request_trees::{Selection, SelectionSet};
+use graphql_trees::{Selection, SelectionSet};
 use graphql_syntax::pos::{Pos, Positioned};
 pub use heads::{is_at_fragment_name, is_at_inline, is_at_selection, read_type_condition};
 use smallvec::SmallVec;

@@ -1,7 +1,7 @@
 -- What definitions and extensions of types say is read exactly, by the keyword in sight; and its places don't matter.
 use Rattle.std.proofs.Common.{Bool, false, true, IsTrue, List, refl}
 use Rattle.graphql_tokens.specs.tokens.Edition.{Current}
-use Rattle.graphql_schema_trees.specs.trees.Schema.{Fields, TypeKind, object, interface, union, enumeration, input_object}
+use Rattle.graphql_trees.specs.trees.Schema.{Fields, TypeKind, object, interface, union, enumeration, input_object}
 use Rattle.graphql_reading.specs.grammar.Fronts.{without_place}
 use Rattle.graphql_reading.specs.grammar.Limits.{Limits}
 use Rattle.graphql_reading.specs.grammar.Relations.{Rel, ◌∪◌, mapped, plus}

@@ -2,7 +2,7 @@
 use Rattle.std.proofs.Common.{◌≡◌, ℕ, IsTrue, Some, None, List, refl}
 use Rattle.graphql_tokens.specs.tokens.Edition.{Current}
 use Rattle.graphql_tokens.specs.tokens.Token.{Token}
-use Rattle.graphql_schema_trees.specs.trees.Schema.{Description}
+use Rattle.graphql_trees.specs.trees.Schema.{Description}
 use Rattle.graphql_grammar.specs.grammar.Placeless.{unplaced, bare_node}
 use Rattle.graphql_grammar.specs.grammar.Values.{StringStands, BlockStands}
 use Rattle.graphql_reading.specs.grammar.Fronts.{without_place}

@@ -3,8 +3,8 @@ use Rattle.std.proofs.Common.{Option, List, map, option_map, refl}
 use Rattle.graphql_tokens.specs.declared.pos.Positioned.{Positioned}
 use Rattle.graphql_tokens.specs.tokens.Edition.{Current}
 use Rattle.graphql_tokens.specs.tokens.Token.{Token}
-use Rattle.graphql_schema_trees.specs.declared.service.DirectiveLocation.{DirectiveLocation}
-use Rattle.graphql_schema_trees.specs.trees.Schema.{InputValues}
+use Rattle.graphql_trees.specs.declared.service.DirectiveLocation.{DirectiveLocation}
+use Rattle.graphql_trees.specs.trees.Schema.{InputValues}
 use Rattle.graphql_reading.specs.grammar.Fronts.{without_place}
 use Rattle.graphql_reading.specs.grammar.Limits.{Limits}
 use Rattle.graphql_reading.specs.grammar.Relations.{Rel, one, ◌⨾◌, opt, after, separated}

@@ -4,7 +4,7 @@ use Rattle.std.specs.List.{AllByRecursion}
 use Rattle.graphql_tokens.specs.declared.pos.Positioned.{Positioned}
 use Rattle.graphql_tokens.specs.tokens.Edition.{Current}
 use Rattle.graphql_tokens.specs.tokens.Token.{Token}
-use Rattle.graphql_schema_trees.specs.trees.Schema.{FieldDefinition, EnumValueDefinition, TypeDefinition, object, interface, union, enumeration, input_object}
+use Rattle.graphql_trees.specs.trees.Schema.{FieldDefinition, EnumValueDefinition, TypeDefinition, object, interface, union, enumeration, input_object}
 use Rattle.graphql_grammar.specs.answers.Language.{grammar}
 use Rattle.graphql_grammar.specs.grammar.Distinct.{IsDistinctValue, AreDistinctDirectives}
 use Rattle.graphql_grammar.specs.grammar.Types.{type_reference}

@@ -1,9 +1,9 @@
 -- Definitions that break no rule, each as it stands in the document, with one more after them.
 use Rattle.std.proofs.Common.{◌≡◌, None, List, [], ◌∷◌, ◌++◌, map, refl, sym, ap, ap₂, ◌∙◌, subst}
 use Rattle.std.proofs.lemmas.List.{map-append}
-use Rattle.graphql_schema_trees.specs.declared.service.TypeSystemDefinition.{TypeSystemDefinition}
-use Rattle.graphql_schema_trees.specs.trees.Schema as trees
-use Rattle.graphql_schema_trees.specs.trees.SchemaViews as views
+use Rattle.graphql_trees.specs.declared.service.TypeSystemDefinition.{TypeSystemDefinition}
+use Rattle.graphql_trees.specs.trees.Schema as trees
+use Rattle.graphql_trees.specs.trees.SchemaViews as views
 use Rattle.graphql_grammar.specs.answers.Answers.{AreUnbroken}
 use Rattle.graphql_grammar.proofs.Unbroken.{unbroken-more}
 use Rattle.graphql_schemas.specs.declared.definitions.Definition.{Definition as CodeDefinition}

@@ -2,7 +2,7 @@
 use Rattle.std.proofs.Common.{ℕ, false, ◌||◌, IsTrue, Option, List, option_map, refl}
 use Rattle.graphql_tokens.specs.tokens.Edition.{Current}
 use Rattle.graphql_syntax.specs.trees.Parts.{Directives}
-use Rattle.graphql_schema_trees.specs.trees.Schema.{InputValues}
+use Rattle.graphql_trees.specs.trees.Schema.{InputValues}
 use Rattle.graphql_grammar.specs.grammar.Arguments.{directives, a_default}
 use Rattle.graphql_grammar.specs.grammar.Placeless.{unplaced}
 use Rattle.graphql_grammar.specs.grammar.Types.{type_reference}

@@ -6,8 +6,8 @@ use Rattle.graphql_tokens.specs.declared.pos.Positioned.{Positioned}
 use Rattle.graphql_tokens.specs.tokens.Edition.{Former, Current}
 use Rattle.graphql_tokens.specs.tokens.Token.{Token}
 use Rattle.graphql_syntax.specs.declared.types.OperationType.TheVariants.{Query}
-use Rattle.graphql_schema_trees.specs.declared.service.ServiceDocument.{ServiceDocument}
-use Rattle.graphql_schema_trees.specs.trees.SchemaViews.{schema_document_tree}
+use Rattle.graphql_trees.specs.declared.service.ServiceDocument.{ServiceDocument}
+use Rattle.graphql_trees.specs.trees.SchemaViews.{schema_document_tree}
 use Rattle.graphql_grammar.specs.answers.Answers.{Answers}
 use Rattle.graphql_grammar.specs.answers.Language.{grammar}
 use Rattle.graphql_grammar.specs.declared.error.Error.{Error}

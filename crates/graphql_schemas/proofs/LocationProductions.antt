@@ -2,8 +2,8 @@
 use Rattle.std.proofs.Common.{◌≡◌, ℕ, Bool, true, false, cond, Some, List, [], ◌∷◌, codes, refl, sym, ap, ◌∙◌, subst}
 use Rattle.std.specs.Str.{bytes_eq}
 use Rattle.std.specs.Cmp.Lexicographic.{same_text}
-use Rattle.graphql_schema_trees.specs.declared.service.DirectiveLocation.{DirectiveLocation}
-use Rattle.graphql_schema_trees.specs.declared.service.DirectiveLocation.TheVariants as locations
+use Rattle.graphql_trees.specs.declared.service.DirectiveLocation.{DirectiveLocation}
+use Rattle.graphql_trees.specs.declared.service.DirectiveLocation.TheVariants as locations
 use Rattle.graphql_reading.specs.grammar.Limits.{Limits}
 use Rattle.graphql_reading.specs.grammar.Tests.{Test, any_name}
 use Rattle.graphql_reading.proofs.Meaning.{Decides, exact-meaning, begins-meaning, has-meaning, ignores-meaning}
@@ -11,7 +11,7 @@ use Rattle.graphql_reading.proofs.TokenTests.{any_name-inner, sample, word_of, H
 use Rattle.graphql_reading.proofs.ReadsExactly.{ReadsExactly, HasPhrase, BeginsWith, exact-mapped, begins-mapped, has-map}
 use Rattle.graphql_reading.proofs.IgnoresPlaces.{IgnoresPlaces, ignores-mapped}
 use Rattle.graphql_grammar.specs.grammar.Placeless.{bare_node}
-use Rattle.graphql_schema_trees.specs.calls.Locations.{location_word}
+use Rattle.graphql_trees.specs.calls.Locations.{location_word}
 use Rattle.graphql_schemas.specs.grammar.Directives.{IsLocation, a_location}
 use Rattle.graphql_schemas.specs.reading.Directives.{all_locations, location_among, location_named, location_at}
 

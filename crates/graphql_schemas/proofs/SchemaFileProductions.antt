@@ -3,7 +3,7 @@ use Rattle.std.proofs.Common.{◌≡◌, Bool, ◌||◌, IsTrue, ◌↔◌, inl,
 use Rattle.graphql_tokens.specs.declared.pos.Positioned.{Positioned}
 use Rattle.graphql_tokens.specs.tokens.Edition.{Current}
 use Rattle.graphql_tokens.specs.tokens.Token.{Token}
-use Rattle.graphql_schema_trees.specs.trees.Schema.{Description, InputValues, DirectiveDefinition}
+use Rattle.graphql_trees.specs.trees.Schema.{Description, InputValues, DirectiveDefinition}
 use Rattle.graphql_reading.specs.grammar.Fronts.{without_place}
 use Rattle.graphql_reading.specs.grammar.Limits.{Limits}
 use Rattle.graphql_reading.specs.grammar.Relations.{Rel, one, ◌⨾◌, ◌∪◌, mapped, opt, given}

@@ -14,7 +14,7 @@ use crate::types::{read_type_body, type_with, word_in_hand};
 use graphql_reading::limits::Limits;
 use graphql_reading::parser::{Parser, Reading};
 use graphql_reading::production::Production;
-use graphql_schema_trees::{DirectiveDefinition, TypeDefinition};
+use graphql_trees::{DirectiveDefinition, TypeDefinition};
 use graphql_syntax::pos::Positioned;
 
 /// A definition or an extension, before the rules of schema files are looked at.

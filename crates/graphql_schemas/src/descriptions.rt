@@ -1,7 +1,7 @@
 //! The reader of descriptions, by GraphQL October 2021, section 3.2.
 ghost use Rattle.std.specs.Prelude.{◌≡◌, string_bytes};
 ghost use Rattle.graphql_syntax.specs.trees.Parts.{placed};
-ghost use Rattle.graphql_schema_trees.specs.trees.SchemaViews.{description_tree};
+ghost use Rattle.graphql_trees.specs.trees.SchemaViews.{description_tree};
 ghost use Rattle.graphql_reading.specs.reading.Funds.{Pays};
 ghost use Rattle.graphql_reading.specs.reading.Worth.{per_token};
 ghost use Rattle.graphql_reading.specs.reading.Given.{Gives};

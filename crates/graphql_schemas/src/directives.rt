@@ -1,9 +1,9 @@
 //! The reader of definitions of directives, by GraphQL October 2021, section 3.13.
 ghost use Rattle.std.specs.Prelude.{◌≡◌};
 ghost use Rattle.graphql_tokens.specs.declared.pos.Positioned.{Positioned};
-ghost use Rattle.graphql_schema_trees.specs.declared.service.DirectiveLocation.{DirectiveLocation};
+ghost use Rattle.graphql_trees.specs.declared.service.DirectiveLocation.{DirectiveLocation};
 ghost use Rattle.graphql_syntax.specs.trees.Parts.{placed};
-ghost use Rattle.graphql_schema_trees.specs.trees.SchemaViews.{description_tree, directive_definition_tree};
+ghost use Rattle.graphql_trees.specs.trees.SchemaViews.{description_tree, directive_definition_tree};
 ghost use Rattle.graphql_reading.specs.grammar.Tests.{any_name};
 ghost use Rattle.graphql_reading.specs.reading.Funds.{Pays, Spares};
 ghost use Rattle.graphql_reading.specs.reading.Worth.{per_token};
@@ -18,7 +18,7 @@ use graphql_reading::limits::Limits;
 use graphql_reading::names::read_name;
 use graphql_reading::parser::{Parser, Reading, Refusal};
 use graphql_reading::production::{Production, separated};
-use graphql_schema_trees::{DirectiveDefinition, DirectiveLocation};
+use graphql_trees::{DirectiveDefinition, DirectiveLocation};
 use graphql_syntax::pos::Positioned;
 
 /// The location that a word names, if it names one.

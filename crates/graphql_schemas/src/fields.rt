@@ -2,8 +2,8 @@
 ghost use Rattle.graphql_reading.specs.reading.Worth.{per_token};
 ghost use Rattle.graphql_tokens.specs.declared.pos.Positioned.{Positioned};
 ghost use Rattle.graphql_syntax.specs.trees.Parts.{placed};
-ghost use Rattle.graphql_schema_trees.specs.trees.Schema as trees;
-ghost use Rattle.graphql_schema_trees.specs.trees.SchemaViews.{field_definition_tree};
+ghost use Rattle.graphql_trees.specs.trees.Schema as trees;
+ghost use Rattle.graphql_trees.specs.trees.SchemaViews.{field_definition_tree};
 ghost use Rattle.graphql_schemas.specs.reading.Fields.{field_definition_at};
 ghost use Rattle.graphql_schemas.specs.reading.InputValues.{member_first};
 
@@ -15,7 +15,7 @@ use graphql_reading::limits::Limits;
 use graphql_reading::names::read_name;
 use graphql_reading::parser::{Parser, Reading};
 use graphql_reading::production::Production;
-use graphql_schema_trees::FieldDefinition;
+use graphql_trees::FieldDefinition;
 use graphql_syntax::pos::Positioned;
 
 /// `FieldDefinition : Description? Name ArgumentsDefinition? ':' Type Directives[Const]?`

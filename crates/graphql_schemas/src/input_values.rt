@@ -3,8 +3,8 @@
 ghost use Rattle.std.specs.Prelude.{◌≡◌};
 ghost use Rattle.graphql_tokens.specs.declared.pos.Positioned.{Positioned};
 ghost use Rattle.graphql_syntax.specs.trees.Parts.{placed};
-ghost use Rattle.graphql_schema_trees.specs.trees.Schema as trees;
-ghost use Rattle.graphql_schema_trees.specs.trees.SchemaViews.{input_value_tree};
+ghost use Rattle.graphql_trees.specs.trees.Schema as trees;
+ghost use Rattle.graphql_trees.specs.trees.SchemaViews.{input_value_tree};
 ghost use Rattle.graphql_reading.specs.reading.Funds.{Pays};
 ghost use Rattle.graphql_reading.specs.reading.Worth.{per_token};
 ghost use Rattle.graphql_reading.specs.reading.Given.{Gives, trees_in};
@@ -17,7 +17,7 @@ use graphql_reading::limits::Limits;
 use graphql_reading::names::read_name;
 use graphql_reading::parser::{Parser, Reading};
 use graphql_reading::production::{Production, maybe_bracketed};
-use graphql_schema_trees::InputValueDefinition;
+use graphql_trees::InputValueDefinition;
 use graphql_syntax::pos::Positioned;
 
 /// Whether a member with a name is in hand: its description, or its name.

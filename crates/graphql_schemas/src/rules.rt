@@ -14,7 +14,7 @@ use crate::definitions::Definition;
 use crate::schema::{Root, Schema};
 use graphql_grammar::error::{Error, Result};
 use graphql_memory::Memory;
-use graphql_schema_trees::{SchemaDefinition, ServiceDocument, TypeSystemDefinition};
+use graphql_trees::{SchemaDefinition, ServiceDocument, TypeSystemDefinition};
 use graphql_syntax::pos::{Pos, Positioned};
 use graphql_syntax::types::OperationType;
 use graphql_syntax::value::Name;

@@ -3,8 +3,8 @@ ghost use Rattle.std.specs.Prelude.{◌≡◌, ◌≤◌, false, true, cond, not
 ghost use Rattle.graphql_reading.specs.declared.parser.Refusal.TheVariants.{Syntax};
 ghost use Rattle.graphql_tokens.specs.tokens.Seen.{seen};
 ghost use Rattle.graphql_syntax.specs.trees.PartViews.{const_directives_tree};
-ghost use Rattle.graphql_schema_trees.specs.trees.Schema.{object, interface};
-ghost use Rattle.graphql_schema_trees.specs.trees.SchemaViews.{description_tree, type_definition_tree};
+ghost use Rattle.graphql_trees.specs.trees.Schema.{object, interface};
+ghost use Rattle.graphql_trees.specs.trees.SchemaViews.{description_tree, type_definition_tree};
 ghost use Rattle.graphql_reading.specs.grammar.Tests.{punct};
 ghost use Rattle.graphql_reading.specs.reading.Funds.{Pays, Spares};
 ghost use Rattle.graphql_reading.specs.reading.Worth.{per_token};
@@ -23,7 +23,7 @@ use graphql_reading::limits::Limits;
 use graphql_reading::names::read_name;
 use graphql_reading::parser::{Parser, Reading, Refusal};
 use graphql_reading::production::{Production, maybe_bracketed};
-use graphql_schema_trees::{
+use graphql_trees::{
     EnumType, FieldDefinition, InputObjectType, InterfaceType, ObjectType, TypeDefinition,
     TypeKind, UnionType,
 };

@@ -4,7 +4,7 @@ use crate::trees::parts::{
     write_arguments, write_default, write_directives, write_node, write_places,
 };
 use crate::trees::values::Written;
-use graphql_request_trees::{
+use graphql_trees::{
     DocumentOperations, ExecutableDocument, Field, InlineFragment, OperationDefinition, Selection,
     SelectionSet, TypeCondition, VariableDefinition,
 };

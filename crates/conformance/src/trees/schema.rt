@@ -2,7 +2,7 @@
 use crate::rows::Shown;
 use crate::trees::parts::{write_default, write_directives, write_node};
 use crate::trees::values::Written;
-use graphql_schema_trees::{
+use graphql_trees::{
     DirectiveDefinition, FieldDefinition, InputValueDefinition, SchemaDefinition, ServiceDocument,
     TypeDefinition, TypeKind, TypeSystemDefinition,
 };

@@ -1,7 +1,7 @@
 //! Readers of variable definitions that make no tree, by GraphQL October 2021, section 2.10.
 ghost use Rattle.graphql_parser.specs.Checked.{Checks, Calm};
 ghost use Rattle.graphql_tokens.specs.declared.pos.Positioned.{Positioned};
-ghost use Rattle.graphql_request_trees.specs.trees.Request.{VariableDefinition};
+ghost use Rattle.graphql_trees.specs.trees.Request.{VariableDefinition};
 ghost use Rattle.graphql_reading.specs.grammar.Tests.{punct};
 ghost use Rattle.graphql_reading.specs.reading.Outcome.{opt_at};
 ghost use Rattle.graphql_requests.specs.reading.Variables.{default_and_directives_at, variable_definition_at, variable_definitions_at};

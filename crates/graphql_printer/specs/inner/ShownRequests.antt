@@ -10,7 +10,7 @@ use Rattle.graphql_syntax.specs.calls.Words.{operation_word}
 use Rattle.graphql_syntax.specs.declared.types.OperationType.{OperationType}
 use Rattle.graphql_syntax.specs.declared.types.OperationType.TheVariants.{Query, Mutation, Subscription}
 use Rattle.graphql_syntax.specs.trees.Parts.{Name}
-use Rattle.graphql_request_trees.specs.trees.Request.{VariableDefinition, TypeCondition, FragmentSpread, Selection, field, fragment_spread, inline_fragment, SelectionSet, no_selections, selection_and, OperationDefinition, FragmentDefinition, operations_of, Document}
+use Rattle.graphql_trees.specs.trees.Request.{VariableDefinition, TypeCondition, FragmentSpread, Selection, field, fragment_spread, inline_fragment, SelectionSet, no_selections, selection_and, OperationDefinition, FragmentDefinition, operations_of, Document}
 use Rattle.graphql_requests.specs.grammar.Request.{Definition, operation, fragment}
 use Rattle.graphql_printer.specs.inner.Places.{stands_before}
 use Rattle.graphql_printer.specs.inner.Shown.{sign, word, shown_node, shown_part, shown_between, shown_type, shown_arguments, shown_directives, shown_default}

@@ -10,9 +10,9 @@ use Rattle.graphql_syntax.specs.calls.Words.{operation_word}
 use Rattle.graphql_syntax.specs.declared.types.OperationType.{OperationType}
 use Rattle.graphql_syntax.specs.declared.types.OperationType.TheVariants.{Query, Mutation, Subscription}
 use Rattle.graphql_syntax.specs.trees.Parts.{Name}
-use Rattle.graphql_schema_trees.specs.calls.Locations.{location_word}
-use Rattle.graphql_schema_trees.specs.declared.service.DirectiveLocation.{DirectiveLocation}
-use Rattle.graphql_schema_trees.specs.trees.Schema.{Description, Names, InputValueDefinition, InputValues, FieldDefinition, EnumValueDefinition, TypeKind, scalar, object, interface, union, enumeration, input_object, SchemaDefinition, TypeDefinition, DirectiveDefinition, Definition, schema, type_def, directive, Document}
+use Rattle.graphql_trees.specs.calls.Locations.{location_word}
+use Rattle.graphql_trees.specs.declared.service.DirectiveLocation.{DirectiveLocation}
+use Rattle.graphql_trees.specs.trees.Schema.{Description, Names, InputValueDefinition, InputValues, FieldDefinition, EnumValueDefinition, TypeKind, scalar, object, interface, union, enumeration, input_object, SchemaDefinition, TypeDefinition, DirectiveDefinition, Definition, schema, type_def, directive, Document}
 use Rattle.graphql_layout.specs.texts.Blocks as blocks
 use Rattle.graphql_printer.specs.Controls.{are_clear}
 use Rattle.graphql_printer.specs.inner.Places.{stands_before}

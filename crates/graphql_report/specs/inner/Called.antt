@@ -9,8 +9,8 @@ use Rattle.graphql_tokens.specs.tokens.Proper.{IsProper}
 use Rattle.graphql_tokens.specs.tokens.Token.{Bare, Token}
 use Rattle.graphql_tokens.specs.declared.lexer.TokenKind.{TokenKind}
 use Rattle.graphql_tokens.specs.declared.lexer.TokenKind.TheVariants.{Punct, Name, Number, String as Quoted, Block, Fault, End}
-use Rattle.graphql_schema_trees.specs.calls.Locations.{location_word}
-use Rattle.graphql_schema_trees.specs.declared.service.DirectiveLocation.{DirectiveLocation}
+use Rattle.graphql_trees.specs.calls.Locations.{location_word}
+use Rattle.graphql_trees.specs.declared.service.DirectiveLocation.{DirectiveLocation}
 use Rattle.graphql_reading.specs.grammar.Fronts.{Viable}
 use Rattle.graphql_reading.specs.grammar.Limits.{Limits}
 use Rattle.graphql_reading.specs.grammar.Tests.{Test, punct, any_name, any_number, any_string, any_block}

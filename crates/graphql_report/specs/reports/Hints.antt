@@ -9,8 +9,8 @@ use Rattle.graphql_tokens.specs.declared.lexer.TokenKind.TheVariants.{String as 
 use Rattle.graphql_tokens.specs.declared.pos.Pos.{Pos}
 use Rattle.graphql_tokens.specs.tokens.Kinds.{is_name}
 use Rattle.graphql_tokens.specs.tokens.Token.{Bare}
-use Rattle.graphql_schema_trees.specs.calls.Locations.{location_word}
-use Rattle.graphql_schema_trees.specs.declared.service.DirectiveLocation.{DirectiveLocation}
+use Rattle.graphql_trees.specs.calls.Locations.{location_word}
+use Rattle.graphql_trees.specs.declared.service.DirectiveLocation.{DirectiveLocation}
 use Rattle.graphql_report.specs.declared.fronts.Language.{Language}
 use Rattle.graphql_report.specs.declared.fronts.Language.TheVariants.{Requests, Schemas}
 use Rattle.graphql_report.specs.reports.Expected.{quoted, location_name, end_name}

@@ -4,7 +4,7 @@
 use Rattle.std.specs.Prelude.{List, [], ◌∷◌, Some, None}
 use Rattle.graphql_tokens.specs.declared.pos.Positioned.{Positioned}
 use Rattle.graphql_syntax.specs.trees.Parts.{Name}
-use Rattle.graphql_request_trees.specs.trees.Request.{OperationDefinition, FragmentDefinition, Operations, single, multiple, Document}
+use Rattle.graphql_trees.specs.trees.Request.{OperationDefinition, FragmentDefinition, Operations, single, multiple, Document}
 use Rattle.graphql_requests.specs.grammar.Request.{Definition, operation, fragment}
 
 -- the operations with a name, in source order

@@ -6,7 +6,7 @@ use Rattle.std.specs.Map.{lookup}
 use Rattle.std.specs.Str.{bytes_eq}
 use Rattle.graphql_tokens.specs.declared.pos.Positioned.{Positioned}
 use Rattle.graphql_syntax.specs.trees.Parts.{Name}
-use Rattle.graphql_request_trees.specs.trees.Request.{VariableDefinition, Selection, SelectionSet, field, fragment_spread, inline_fragment, no_selections, selection_and, OperationDefinition, FragmentDefinition, Operations, single, multiple, Document}
+use Rattle.graphql_trees.specs.trees.Request.{VariableDefinition, Selection, SelectionSet, field, fragment_spread, inline_fragment, no_selections, selection_and, OperationDefinition, FragmentDefinition, Operations, single, multiple, Document}
 use Rattle.graphql_grammar.specs.grammar.Distinct.{IsDistinctDefault, AreDistinctArguments, AreDistinctDirectives}
 
 -- no entry has the name of one that stands before it

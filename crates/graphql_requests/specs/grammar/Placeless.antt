@@ -1,7 +1,7 @@
 -- Trees of requests without their places: each place is 0:0.
 -- Source: this project's choice.
 use Rattle.std.specs.Prelude.{List, map, option_map}
-use Rattle.graphql_request_trees.specs.trees.Request.{VariableDefinition, TypeCondition, FragmentSpread, Selection, SelectionSet, field, fragment_spread, inline_fragment, no_selections, selection_and, OperationDefinition, FragmentDefinition}
+use Rattle.graphql_trees.specs.trees.Request.{VariableDefinition, TypeCondition, FragmentSpread, Selection, SelectionSet, field, fragment_spread, inline_fragment, no_selections, selection_and, OperationDefinition, FragmentDefinition}
 use Rattle.graphql_reading.specs.grammar.Places.{nowhere}
 use Rattle.graphql_grammar.specs.grammar.Placeless.{unplaced, bare_node, placeless_argument, placeless_directives}
 use Rattle.graphql_requests.specs.grammar.Request.{Definition, operation, fragment}

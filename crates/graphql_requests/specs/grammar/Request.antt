@@ -6,7 +6,7 @@ use Rattle.graphql_syntax.specs.declared.types.OperationType.TheVariants.{Query}
 use Rattle.graphql_tokens.specs.tokens.Edition.{Edition}
 use Rattle.graphql_tokens.specs.tokens.Token.{Token}
 use Rattle.graphql_syntax.specs.trees.Parts.{Name, Directives}
-use Rattle.graphql_request_trees.specs.trees.Request.{VariableDefinition, TypeCondition, OperationDefinition, FragmentDefinition}
+use Rattle.graphql_trees.specs.trees.Request.{VariableDefinition, TypeCondition, OperationDefinition, FragmentDefinition}
 use Rattle.graphql_grammar.specs.grammar.Arguments.{directives}
 use Rattle.graphql_reading.specs.grammar.Relations.{given}
 use Rattle.graphql_grammar.specs.grammar.Operations.{operation_type}

@@ -1,8 +1,8 @@
 -- Requests as a language: their grammar, their rules and their documents.
 -- Source: this project's choice.
 use Rattle.std.specs.Prelude.{◌≡◌}
-use Rattle.graphql_request_trees.specs.declared.executable.ExecutableDocument.{ExecutableDocument}
-use Rattle.graphql_request_trees.specs.trees.RequestViews.{document_tree}
+use Rattle.graphql_trees.specs.declared.executable.ExecutableDocument.{ExecutableDocument}
+use Rattle.graphql_trees.specs.trees.RequestViews.{document_tree}
 use Rattle.graphql_grammar.specs.answers.Language.{Language}
 use Rattle.graphql_requests.specs.grammar.Documents.{document_of}
 use Rattle.graphql_requests.specs.grammar.Placeless.{placeless_definitions}

@@ -5,7 +5,7 @@ use Rattle.graphql_tokens.specs.declared.pos.Positioned.{Positioned}
 use Rattle.graphql_tokens.specs.tokens.Edition.{Edition}
 use Rattle.graphql_tokens.specs.tokens.Token.{Token}
 use Rattle.graphql_syntax.specs.trees.Parts.{Name, Arguments, Directives}
-use Rattle.graphql_request_trees.specs.trees.Request.{TypeCondition, Selection, field, fragment_spread, inline_fragment, SelectionSet, no_selections, set_of}
+use Rattle.graphql_trees.specs.trees.Request.{TypeCondition, Selection, field, fragment_spread, inline_fragment, SelectionSet, no_selections, set_of}
 use Rattle.graphql_grammar.specs.grammar.Arguments.{arguments, directives}
 use Rattle.graphql_reading.specs.grammar.Relations.{given}
 use Rattle.graphql_reading.specs.grammar.Places.{at, name_of, nowhere}

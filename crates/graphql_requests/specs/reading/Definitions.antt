@@ -4,8 +4,8 @@ use Rattle.graphql_tokens.specs.declared.pos.Positioned.{Positioned}
 use Rattle.graphql_syntax.specs.declared.types.OperationType.{OperationType}
 use Rattle.graphql_tokens.specs.tokens.Token.{Token}
 use Rattle.graphql_syntax.specs.trees.Parts.{Name, Directives, placed}
-use Rattle.graphql_request_trees.specs.trees.Request.{VariableDefinition}
-use Rattle.graphql_request_trees.specs.trees.RequestViews.{operation_tree, fragment_tree}
+use Rattle.graphql_trees.specs.trees.Request.{VariableDefinition}
+use Rattle.graphql_trees.specs.trees.RequestViews.{operation_tree, fragment_tree}
 use Rattle.graphql_requests.specs.declared.definitions.Definition as code
 use Rattle.graphql_requests.specs.declared.definitions.Definition.TheVariants.{Operation, Fragment}
 use Rattle.graphql_reading.specs.grammar.Relations.{given}

@@ -1,7 +1,7 @@
 -- The open sets of the code, as readers of lists see them.
 use Rattle.std.specs.Prelude.{List, drop}
 use Rattle.graphql_tokens.specs.declared.pos.Positioned.{Positioned}
-use Rattle.graphql_request_trees.specs.trees.Request.{Selection}
+use Rattle.graphql_trees.specs.trees.Request.{Selection}
 use Rattle.graphql_requests.specs.declared.selections.OpenSet.{OpenSet}
 use Rattle.graphql_requests.specs.reading.SelectionSteps.{Opened}
 

@@ -2,8 +2,8 @@
 use Rattle.std.specs.Prelude.{ℕ, List, [], Option, Some, None, length, fold, flat_map, nat_le, if◌then◌else◌}
 use Rattle.std.specs.Hash as fed
 use Rattle.std.specs.Hash.DefaultHasher as strong
-use Rattle.graphql_request_trees.specs.calls.Hashing.{quick_seed, digest_seed}
-use Rattle.graphql_request_trees.specs.declared.hasher.NameSeed.{NameSeed}
+use Rattle.graphql_trees.specs.calls.Hashing.{quick_seed, digest_seed}
+use Rattle.graphql_trees.specs.declared.hasher.NameSeed.{NameSeed}
 use Rattle.graphql_syntax.specs.trees.Parts.{Name}
 use Rattle.graphql_requests.specs.declared.definitions.Definition.{Definition}
 use Rattle.graphql_requests.specs.declared.definitions.Definition.TheVariants.{Operation, Fragment}

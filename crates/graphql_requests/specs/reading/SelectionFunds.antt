@@ -8,7 +8,7 @@ use Rattle.graphql_reading.specs.reading.Ahead.{Ahead}
 use Rattle.graphql_reading.specs.reading.Funds.{SparesGiven, RefusesGiven}
 use Rattle.graphql_reading.specs.reading.Worth.{per_token}
 use Rattle.graphql_tokens.specs.contracts.pos.Positioned as positioned
-use Rattle.graphql_request_trees.specs.contracts.executable.Selection as selection
+use Rattle.graphql_trees.specs.contracts.executable.Selection as selection
 
 -- the type of a selection with its place
 abbrev pub selection_row : RattleType

@@ -3,7 +3,7 @@ use Rattle.std.specs.Prelude.{ℕ, zero, suc, true, ◌||◌, Option, Some, None
 use Rattle.graphql_tokens.specs.declared.pos.Positioned.{Positioned}
 use Rattle.graphql_tokens.specs.tokens.Token.{Token}
 use Rattle.graphql_syntax.specs.trees.Parts.{Directives}
-use Rattle.graphql_request_trees.specs.trees.Request.{TypeCondition, Selection}
+use Rattle.graphql_trees.specs.trees.Request.{TypeCondition, Selection}
 use Rattle.graphql_requests.specs.grammar.Selections.{Set, field_of, fragment_name, spread_of, condition_of, inline_of, selection_set_of}
 use Rattle.graphql_reading.specs.grammar.Tests.{Test, punct, keyword, any_name}
 use Rattle.graphql_grammar.specs.reading.Arguments.{maybe_arguments_at, directives_at}

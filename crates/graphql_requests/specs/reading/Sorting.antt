@@ -3,8 +3,8 @@ use Rattle.std.specs.Prelude.{◌≡◌, true, is_some, Option, Some, None, opti
 use Rattle.graphql_tokens.specs.declared.pos.Pos.{Pos}
 use Rattle.graphql_tokens.specs.declared.pos.Positioned.{Positioned}
 use Rattle.graphql_syntax.specs.trees.Parts.{Name, placed}
-use Rattle.graphql_request_trees.specs.trees.Request as request
-use Rattle.graphql_request_trees.specs.trees.RequestViews.{operation_tree, fragment_tree, entry_tree}
+use Rattle.graphql_trees.specs.trees.Request as request
+use Rattle.graphql_trees.specs.trees.RequestViews.{operation_tree, fragment_tree, entry_tree}
 use Rattle.graphql_grammar.specs.declared.error.Error.{Error}
 use Rattle.graphql_requests.specs.declared.rules.Sorted.{Sorted}
 use Rattle.graphql_requests.specs.grammar.Documents.{named_operations, fragments}

@@ -2,7 +2,7 @@
 use Rattle.std.specs.Prelude.{ℕ, true, Option, List}
 use Rattle.graphql_tokens.specs.declared.pos.Positioned.{Positioned}
 use Rattle.graphql_syntax.specs.trees.Parts.{Directives}
-use Rattle.graphql_request_trees.specs.trees.Request.{VariableDefinition}
+use Rattle.graphql_trees.specs.trees.Request.{VariableDefinition}
 use Rattle.graphql_grammar.specs.grammar.Values.{Value}
 use Rattle.graphql_grammar.specs.reading.Arguments.{directives_at, maybe_default_at}
 use Rattle.graphql_grammar.specs.reading.Types.{type_at}

@@ -1,7 +1,7 @@
 //! Readers of selections up to their sets.
 ghost use Rattle.std.specs.Prelude.{◌≡◌, ◌-◌, Some, option_map};
 ghost use Rattle.graphql_syntax.specs.trees.Parts.{placed};
-ghost use Rattle.graphql_request_trees.specs.trees.RequestViews.{selection_trees, type_condition_tree};
+ghost use Rattle.graphql_trees.specs.trees.RequestViews.{selection_trees, type_condition_tree};
 ghost use Rattle.graphql_requests.specs.grammar.Selections.{fragment_name};
 ghost use Rattle.graphql_requests.specs.reading.SelectionSteps.{names_at, onto, field_head_at, spread_at, inline_head_at, maybe_condition_at, head_at};
 ghost use Rattle.graphql_reading.specs.reading.Funds.{Pays};
@@ -14,7 +14,7 @@ use graphql_grammar::arguments::{read_arguments, read_directives};
 use graphql_reading::limits::Limits;
 use graphql_reading::names::read_name;
 use graphql_reading::parser::{Parser, Reading, Refusal};
-use graphql_request_trees::{
+use graphql_trees::{
     Field, FragmentSpread, InlineFragment, Selection, SelectionSet, TypeCondition,
 };
 use graphql_syntax::pos::{Pos, Positioned};

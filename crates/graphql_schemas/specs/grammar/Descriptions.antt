@@ -4,7 +4,7 @@ use Rattle.graphql_tokens.specs.declared.pos.Pos.{Pos}
 use Rattle.graphql_tokens.specs.declared.pos.Positioned.{Positioned}
 use Rattle.graphql_tokens.specs.tokens.Edition.{Edition}
 use Rattle.graphql_tokens.specs.tokens.Token.{Token}
-use Rattle.graphql_schema_trees.specs.trees.Schema.{Description}
+use Rattle.graphql_trees.specs.trees.Schema.{Description}
 use Rattle.graphql_grammar.specs.grammar.Values.{StringStands, BlockStands}
 use Rattle.graphql_reading.specs.grammar.Places.{at}
 use Rattle.graphql_reading.specs.grammar.Relations.{Rel, meaning, ◌∪◌, mapped}

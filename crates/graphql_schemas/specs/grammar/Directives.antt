@@ -3,9 +3,9 @@ use Rattle.std.specs.Prelude.{◌≡◌, true, false, Bool, Option, Some, None, 
 use Rattle.graphql_tokens.specs.declared.pos.Positioned.{Positioned}
 use Rattle.graphql_tokens.specs.tokens.Edition.{Edition}
 use Rattle.graphql_tokens.specs.tokens.Token.{Bare, Token}
-use Rattle.graphql_schema_trees.specs.declared.service.DirectiveLocation.{DirectiveLocation}
-use Rattle.graphql_schema_trees.specs.calls.Locations.{location_word}
-use Rattle.graphql_schema_trees.specs.trees.Schema.{Description, InputValues, DirectiveDefinition}
+use Rattle.graphql_trees.specs.declared.service.DirectiveLocation.{DirectiveLocation}
+use Rattle.graphql_trees.specs.calls.Locations.{location_word}
+use Rattle.graphql_trees.specs.trees.Schema.{Description, InputValues, DirectiveDefinition}
 use Rattle.graphql_reading.specs.grammar.Fronts.{Grammar}
 use Rattle.graphql_reading.specs.grammar.Places.{at, name_of}
 use Rattle.graphql_reading.specs.grammar.Relations.{Rel, one, meaning, ◌⨾◌, mapped, opt, given, after, separated}

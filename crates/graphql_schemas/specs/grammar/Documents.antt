@@ -6,7 +6,7 @@ use Rattle.graphql_tokens.specs.declared.pos.Positioned.{Positioned}
 use Rattle.graphql_syntax.specs.declared.types.OperationType.{OperationType}
 use Rattle.graphql_syntax.specs.declared.types.OperationType.TheVariants.{Query, Mutation, Subscription}
 use Rattle.graphql_syntax.specs.trees.Parts.{Name, placed}
-use Rattle.graphql_schema_trees.specs.trees.Schema as trees
+use Rattle.graphql_trees.specs.trees.Schema as trees
 use Rattle.graphql_schemas.specs.grammar.Rules.{first_of_kind}
 use Rattle.graphql_schemas.specs.grammar.Schema.{Root, Schema}
 use Rattle.graphql_schemas.specs.grammar.SchemaFile.{Definition, schema, type_def, directive}

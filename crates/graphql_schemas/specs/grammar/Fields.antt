@@ -4,7 +4,7 @@ use Rattle.graphql_tokens.specs.declared.pos.Positioned.{Positioned}
 use Rattle.graphql_tokens.specs.tokens.Edition.{Edition}
 use Rattle.graphql_tokens.specs.tokens.Token.{Token}
 use Rattle.graphql_syntax.specs.trees.Parts.{Directives}
-use Rattle.graphql_schema_trees.specs.trees.Schema.{Description, InputValues, FieldDefinition}
+use Rattle.graphql_trees.specs.trees.Schema.{Description, InputValues, FieldDefinition}
 use Rattle.graphql_syntax.specs.trees.TypeTree.{TypeTree}
 use Rattle.graphql_grammar.specs.grammar.Arguments.{directives}
 use Rattle.graphql_grammar.specs.grammar.Types.{type_reference}

@@ -2,7 +2,7 @@
 use Rattle.std.specs.Prelude.{◌≡◌, true, false, IsSome, None}
 use Rattle.std.specs.List.{AllByRecursion}
 use Rattle.graphql_tokens.specs.declared.pos.Positioned.{Positioned}
-use Rattle.graphql_schema_trees.specs.trees.Schema.{InputValueDefinition, InputValues, FieldDefinition, EnumValueDefinition, TypeKind, scalar, object, interface, union, enumeration, input_object, SchemaDefinition, Definition, schema, type_def, directive, Document}
+use Rattle.graphql_trees.specs.trees.Schema.{InputValueDefinition, InputValues, FieldDefinition, EnumValueDefinition, TypeKind, scalar, object, interface, union, enumeration, input_object, SchemaDefinition, Definition, schema, type_def, directive, Document}
 use Rattle.graphql_grammar.specs.grammar.Distinct.{IsDistinctDefault, AreDistinctDirectives}
 
 -- a definition names the type at which queries begin, and an extension has no description

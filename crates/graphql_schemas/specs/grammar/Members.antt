@@ -5,7 +5,7 @@ use Rattle.graphql_tokens.specs.declared.pos.Positioned.{Positioned}
 use Rattle.graphql_tokens.specs.tokens.Edition.{Edition}
 use Rattle.graphql_tokens.specs.tokens.Token.{Token}
 use Rattle.graphql_syntax.specs.trees.Parts.{Name, Directives}
-use Rattle.graphql_schema_trees.specs.trees.Schema.{Description, Names, EnumValueDefinition}
+use Rattle.graphql_trees.specs.trees.Schema.{Description, Names, EnumValueDefinition}
 use Rattle.graphql_grammar.specs.grammar.Arguments.{directives}
 use Rattle.graphql_reading.specs.grammar.Fronts.{Grammar}
 use Rattle.graphql_reading.specs.grammar.Places.{name_of}

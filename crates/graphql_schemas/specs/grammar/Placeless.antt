@@ -1,7 +1,7 @@
 -- Trees of schema files without their places: each place is 0:0.
 -- Source: this project's choice.
 use Rattle.std.specs.Prelude.{List, map, option_map}
-use Rattle.graphql_schema_trees.specs.trees.Schema.{Description, Names, InputValueDefinition, InputValues, FieldDefinition, EnumValueDefinition, Fields, TypeKind, scalar, object, interface, union, enumeration, input_object, TypeDefinition, DirectiveDefinition}
+use Rattle.graphql_trees.specs.trees.Schema.{Description, Names, InputValueDefinition, InputValues, FieldDefinition, EnumValueDefinition, Fields, TypeKind, scalar, object, interface, union, enumeration, input_object, TypeDefinition, DirectiveDefinition}
 use Rattle.graphql_reading.specs.grammar.Places.{nowhere}
 use Rattle.graphql_grammar.specs.grammar.Placeless.{unplaced, bare_node, placeless_directives}
 use Rattle.graphql_schemas.specs.grammar.Schema.{Root, Schema}

@@ -6,7 +6,7 @@ use Rattle.graphql_tokens.specs.tokens.Edition.{Edition, Former, Current}
 use Rattle.graphql_tokens.specs.tokens.Token.{Token}
 use Rattle.graphql_syntax.specs.declared.types.OperationType.{OperationType}
 use Rattle.graphql_syntax.specs.trees.Parts.{Name, Directives}
-use Rattle.graphql_schema_trees.specs.trees.Schema.{Description}
+use Rattle.graphql_trees.specs.trees.Schema.{Description}
 use Rattle.graphql_grammar.specs.grammar.Arguments.{directives}
 use Rattle.graphql_grammar.specs.grammar.Operations.{operation_type}
 use Rattle.graphql_reading.specs.grammar.Fronts.{Grammar}

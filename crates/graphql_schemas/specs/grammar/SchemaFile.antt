@@ -3,7 +3,7 @@
 use Rattle.std.specs.Prelude.{◌≡◌, None, List}
 use Rattle.graphql_tokens.specs.declared.pos.Positioned.{Positioned}
 use Rattle.graphql_tokens.specs.tokens.Edition.{Edition}
-use Rattle.graphql_schema_trees.specs.trees.Schema.{TypeDefinition, DirectiveDefinition}
+use Rattle.graphql_trees.specs.trees.Schema.{TypeDefinition, DirectiveDefinition}
 use Rattle.graphql_reading.specs.grammar.Fronts.{Grammar}
 use Rattle.graphql_reading.specs.grammar.Relations.{◌∪◌, mapped, plus}
 use Rattle.graphql_schemas.specs.grammar.Directives.{a_directive_definition}

@@ -4,8 +4,8 @@ use Rattle.std.specs.Prelude.{◌≡◌, None, List}
 use Rattle.std.specs.List.{AllByRecursion}
 use Rattle.graphql_tokens.specs.tokens.Edition.{Former}
 use Rattle.graphql_tokens.specs.tokens.Token.{Token}
-use Rattle.graphql_schema_trees.specs.declared.service.ServiceDocument.{ServiceDocument}
-use Rattle.graphql_schema_trees.specs.trees.SchemaViews.{schema_document_tree}
+use Rattle.graphql_trees.specs.declared.service.ServiceDocument.{ServiceDocument}
+use Rattle.graphql_trees.specs.trees.SchemaViews.{schema_document_tree}
 use Rattle.graphql_grammar.specs.answers.Language.{Language, grammar}
 use Rattle.graphql_schemas.specs.grammar.Documents.{document_of}
 use Rattle.graphql_schemas.specs.grammar.Placeless.{placeless_definitions}

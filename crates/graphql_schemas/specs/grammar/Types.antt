@@ -4,7 +4,7 @@ use Rattle.graphql_tokens.specs.declared.pos.Positioned.{Positioned}
 use Rattle.graphql_tokens.specs.tokens.Edition.{Edition}
 use Rattle.graphql_tokens.specs.tokens.Token.{Token}
 use Rattle.graphql_syntax.specs.trees.Parts.{Name, Directives}
-use Rattle.graphql_schema_trees.specs.trees.Schema.{Description, Names, FieldDefinition, TypeKind, scalar, object, interface, union, enumeration, input_object, Fields, TypeDefinition}
+use Rattle.graphql_trees.specs.trees.Schema.{Description, Names, FieldDefinition, TypeKind, scalar, object, interface, union, enumeration, input_object, Fields, TypeDefinition}
 use Rattle.graphql_grammar.specs.grammar.Arguments.{a_directive, directives}
 use Rattle.graphql_reading.specs.grammar.Fronts.{Grammar}
 use Rattle.graphql_reading.specs.grammar.Limits.{Limits}

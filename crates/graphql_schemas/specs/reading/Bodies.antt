@@ -7,10 +7,10 @@ use Rattle.graphql_tokens.specs.tokens.Token.{Bare, Token}
 use Rattle.graphql_syntax.specs.declared.types.ConstDirective.{ConstDirective}
 use Rattle.graphql_syntax.specs.trees.PartViews.{const_directives_tree}
 use Rattle.graphql_syntax.specs.trees.Parts.{Name, placed}
-use Rattle.graphql_schema_trees.specs.declared.service.FieldDefinition.{FieldDefinition}
-use Rattle.graphql_schema_trees.specs.declared.service.TypeKind.{TypeKind}
-use Rattle.graphql_schema_trees.specs.trees.Schema.{object, interface}
-use Rattle.graphql_schema_trees.specs.trees.SchemaViews.{field_definition_tree, kind_tree}
+use Rattle.graphql_trees.specs.declared.service.FieldDefinition.{FieldDefinition}
+use Rattle.graphql_trees.specs.declared.service.TypeKind.{TypeKind}
+use Rattle.graphql_trees.specs.trees.Schema.{object, interface}
+use Rattle.graphql_trees.specs.trees.SchemaViews.{field_definition_tree, kind_tree}
 use Rattle.graphql_reading.specs.grammar.Limits.{Limits}
 use Rattle.graphql_grammar.specs.reading.Arguments.{directives_at}
 use Rattle.graphql_reading.specs.grammar.Places.{name_of}

@@ -1,6 +1,6 @@
 -- Reading descriptions from lists of tokens.
 use Rattle.std.specs.Prelude.{◌||◌}
-use Rattle.graphql_schema_trees.specs.trees.Schema.{Description}
+use Rattle.graphql_trees.specs.trees.Schema.{Description}
 use Rattle.graphql_grammar.specs.reading.Values.{string_text, block_text}
 use Rattle.graphql_reading.specs.grammar.Tests.{Test, any_string, any_block}
 use Rattle.graphql_reading.specs.reading.Outcome.{Reader, meaning_at, mapped_at, choose_at, opt_at}

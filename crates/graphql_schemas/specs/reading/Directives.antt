@@ -3,13 +3,13 @@ use Rattle.std.specs.Prelude.{ℕ, Bool, cond, Option, Some, None, List, [], ◌
 use Rattle.std.specs.Str.{bytes_eq}
 use Rattle.graphql_tokens.specs.declared.pos.Positioned.{Positioned}
 use Rattle.graphql_tokens.specs.tokens.Token.{Token}
-use Rattle.graphql_schema_trees.specs.declared.service.DirectiveLocation.{DirectiveLocation}
-use Rattle.graphql_schema_trees.specs.declared.service.DirectiveLocation.TheVariants as locations
-use Rattle.graphql_schema_trees.specs.trees.Schema.{InputValues}
+use Rattle.graphql_trees.specs.declared.service.DirectiveLocation.{DirectiveLocation}
+use Rattle.graphql_trees.specs.declared.service.DirectiveLocation.TheVariants as locations
+use Rattle.graphql_trees.specs.trees.Schema.{InputValues}
 use Rattle.graphql_reading.specs.grammar.Limits.{Limits}
 use Rattle.graphql_reading.specs.grammar.Tests.{punct, keyword, any_name}
 use Rattle.graphql_reading.specs.reading.Outcome.{Reader, one_at, meaning_at, then_at, mapped_at, opt_at, after_at, separated_at}
-use Rattle.graphql_schema_trees.specs.calls.Locations.{location_word}
+use Rattle.graphql_trees.specs.calls.Locations.{location_word}
 use Rattle.graphql_schemas.specs.grammar.Directives.{location_of, is_there}
 use Rattle.graphql_schemas.specs.reading.InputValues.{arguments_definition_at}
 

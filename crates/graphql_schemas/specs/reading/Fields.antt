@@ -1,7 +1,7 @@
 -- Reading fields from lists of tokens.
 use Rattle.std.specs.Prelude.{false, List}
 use Rattle.graphql_tokens.specs.declared.pos.Positioned.{Positioned}
-use Rattle.graphql_schema_trees.specs.trees.Schema.{FieldDefinition}
+use Rattle.graphql_trees.specs.trees.Schema.{FieldDefinition}
 use Rattle.graphql_grammar.specs.reading.Arguments.{directives_at}
 use Rattle.graphql_grammar.specs.reading.Types.{type_at}
 use Rattle.graphql_reading.specs.grammar.Limits.{Limits}

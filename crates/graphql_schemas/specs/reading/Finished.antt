@@ -3,10 +3,10 @@ use Rattle.std.specs.Prelude.{◌≡◌, true, is_some, Option, Some, None, Resu
 use Rattle.graphql_tokens.specs.declared.pos.Pos.{Pos}
 use Rattle.graphql_tokens.specs.declared.pos.Positioned.{Positioned}
 use Rattle.graphql_syntax.specs.declared.types.OperationType.TheVariants.{Query, Mutation, Subscription}
-use Rattle.graphql_schema_trees.specs.declared.service.SchemaDefinition.{SchemaDefinition}
-use Rattle.graphql_schema_trees.specs.declared.service.TypeSystemDefinition.{TypeSystemDefinition}
+use Rattle.graphql_trees.specs.declared.service.SchemaDefinition.{SchemaDefinition}
+use Rattle.graphql_trees.specs.declared.service.TypeSystemDefinition.{TypeSystemDefinition}
 use Rattle.graphql_syntax.specs.trees.Parts.{Name, placed}
-use Rattle.graphql_schema_trees.specs.trees.SchemaViews as views
+use Rattle.graphql_trees.specs.trees.SchemaViews as views
 use Rattle.graphql_grammar.specs.declared.error.Error.{Error}
 use Rattle.graphql_grammar.specs.declared.error.Error.TheVariants.{MultipleRoots}
 use Rattle.graphql_grammar.specs.reading.DocumentOf.{TellsOf}

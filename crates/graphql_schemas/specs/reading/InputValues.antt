@@ -1,7 +1,7 @@
 -- Reading input values from lists of tokens.
 use Rattle.std.specs.Prelude.{false, ◌||◌}
 use Rattle.graphql_tokens.specs.declared.pos.Positioned.{Positioned}
-use Rattle.graphql_schema_trees.specs.trees.Schema.{InputValueDefinition, InputValues}
+use Rattle.graphql_trees.specs.trees.Schema.{InputValueDefinition, InputValues}
 use Rattle.graphql_grammar.specs.reading.Arguments.{directives_at, maybe_default_at}
 use Rattle.graphql_grammar.specs.reading.Types.{type_at}
 use Rattle.graphql_reading.specs.grammar.Limits.{Limits}

@@ -2,7 +2,7 @@
 use Rattle.std.specs.Prelude.{◌||◌, false, List}
 use Rattle.graphql_tokens.specs.declared.pos.Positioned.{Positioned}
 use Rattle.graphql_syntax.specs.trees.Parts.{Name}
-use Rattle.graphql_schema_trees.specs.trees.Schema.{Names, EnumValueDefinition}
+use Rattle.graphql_trees.specs.trees.Schema.{Names, EnumValueDefinition}
 use Rattle.graphql_grammar.specs.reading.Arguments.{directives_at}
 use Rattle.graphql_reading.specs.grammar.Limits.{Limits}
 use Rattle.graphql_reading.specs.grammar.Places.{name_of}

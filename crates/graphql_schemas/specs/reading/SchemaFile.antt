@@ -2,9 +2,9 @@
 use Rattle.std.specs.Prelude.{true, false, ◌||◌, Option, List}
 use Rattle.graphql_tokens.specs.declared.pos.Positioned.{Positioned}
 use Rattle.graphql_tokens.specs.tokens.Token.{Token}
-use Rattle.graphql_schema_trees.specs.declared.service.DirectiveLocation.{DirectiveLocation}
+use Rattle.graphql_trees.specs.declared.service.DirectiveLocation.{DirectiveLocation}
 use Rattle.graphql_syntax.specs.trees.Parts.{Directives}
-use Rattle.graphql_schema_trees.specs.trees.Schema.{Description, InputValues}
+use Rattle.graphql_trees.specs.trees.Schema.{Description, InputValues}
 use Rattle.graphql_reading.specs.grammar.Limits.{Limits}
 use Rattle.graphql_reading.specs.grammar.Tests.{Test, keyword}
 use Rattle.graphql_reading.specs.reading.Outcome.{Reader, one_at, then_at, mapped_at, choose_at, plus_at}

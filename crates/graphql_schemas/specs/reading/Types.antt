@@ -1,7 +1,7 @@
 -- Reading definitions and extensions of types from lists of tokens.
 use Rattle.std.specs.Prelude.{Bool, false, not, cond, ◌&&◌, ◌||◌, List, [], ◌∷◌}
 use Rattle.graphql_syntax.specs.trees.Parts.{Directives}
-use Rattle.graphql_schema_trees.specs.trees.Schema.{TypeKind, object, interface, union, enumeration, input_object, Fields}
+use Rattle.graphql_trees.specs.trees.Schema.{TypeKind, object, interface, union, enumeration, input_object, Fields}
 use Rattle.graphql_grammar.specs.reading.Arguments.{directives_at}
 use Rattle.graphql_reading.specs.grammar.Fronts.{syntax}
 use Rattle.graphql_reading.specs.grammar.Limits.{Limits}

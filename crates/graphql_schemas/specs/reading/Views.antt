@@ -2,7 +2,7 @@
 use Rattle.std.specs.Prelude.{List, map}
 use Rattle.graphql_syntax.specs.trees.Parts.{placed}
 use Rattle.graphql_syntax.specs.trees.PartViews.{const_directives_tree}
-use Rattle.graphql_schema_trees.specs.trees.SchemaViews.{description_tree, type_definition_tree, directive_definition_tree}
+use Rattle.graphql_trees.specs.trees.SchemaViews.{description_tree, type_definition_tree, directive_definition_tree}
 use Rattle.graphql_schemas.specs.declared.definitions.Definition as code
 use Rattle.graphql_schemas.specs.declared.definitions.Definition.TheVariants as variants
 use Rattle.graphql_schemas.specs.declared.schema.Root as code_root

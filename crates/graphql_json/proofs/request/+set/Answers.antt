@@ -4,8 +4,8 @@ use Rattle.graphql_parser.specs.trees.Request.{of_field, of_inline_fragment, set
 use Rattle.graphql_parser.specs.trees.RequestViews.{field_tree, inline_fragment_tree, selection_trees}
 use Rattle.graphql_json.proofs.Steps.{next, next_optional, as_tokens, whole_node, whole_list, same_option}
 use Rattle.graphql_parser.specs.types.Positioned.{Positioned}
-use Rattle.graphql_request_trees.specs.declared.executable.Field.{Field, out-Field}
-use Rattle.graphql_request_trees.specs.declared.executable.SelectionSet.{SelectionSet}
+use Rattle.graphql_trees.specs.declared.executable.Field.{Field, out-Field}
+use Rattle.graphql_trees.specs.declared.executable.SelectionSet.{SelectionSet}
 use Rattle.graphql_json.proofs.Selections.{field_parts, field_of_parts, inline_parts, inline_of_parts, json_of_parts, tree_of_set, some_set}
 use Rattle.graphql_json.specs.inner.Written.{member_tokens, optional_tokens, opening}
 use Rattle.graphql_json.specs.nodes.Nodes.{placed_json}

@@ -6,9 +6,9 @@ use Rattle.graphql_parser.specs.trees.Request as request
 use Rattle.graphql_parser.specs.trees.RequestViews.{selection_tree, selection_trees}
 use Rattle.graphql_parser.specs.types.Positioned.{Positioned}
 use Rattle.graphql_parser.proofs.Requests.{field_tree_out, inline_fragment_tree_out, set_tree_out}
-use Rattle.graphql_request_trees.specs.declared.executable.Field.{Field, out-Field}
-use Rattle.graphql_request_trees.specs.declared.executable.InlineFragment.{InlineFragment}
-use Rattle.graphql_request_trees.specs.declared.executable.SelectionSet.{SelectionSet, out-SelectionSet}
+use Rattle.graphql_trees.specs.declared.executable.Field.{Field, out-Field}
+use Rattle.graphql_trees.specs.declared.executable.InlineFragment.{InlineFragment}
+use Rattle.graphql_trees.specs.declared.executable.SelectionSet.{SelectionSet, out-SelectionSet}
 use Rattle.graphql_packed.proofs.Counts.{selections_counted}
 use Rattle.graphql_packed.proofs.Steps.{next, as_bytes, own_option, whole_list}
 use Rattle.graphql_packed.specs.packed.Bytes.{number_bytes, text_bytes}

@@ -1,7 +1,7 @@
 //! The check of definitions of directives, by GraphQL October 2021, section 3.13.
 ghost use Rattle.std.specs.Prelude.{Ok};
 ghost use Rattle.graphql_tokens.specs.declared.pos.Positioned.{Positioned};
-ghost use Rattle.graphql_schema_trees.specs.declared.service.DirectiveLocation.{DirectiveLocation};
+ghost use Rattle.graphql_trees.specs.declared.service.DirectiveLocation.{DirectiveLocation};
 ghost use Rattle.graphql_parser.specs.Checked.{Checks, Calm};
 ghost use Rattle.graphql_reading.specs.grammar.Tests.{any_name, keyword};
 ghost use Rattle.graphql_reading.specs.reading.Outcome.{opt_at, one_at};

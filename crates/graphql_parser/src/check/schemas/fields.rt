@@ -1,6 +1,6 @@
 //! The check of the fields of object types and interfaces, by GraphQL October 2021, section 3.6.
 ghost use Rattle.graphql_tokens.specs.declared.pos.Positioned.{Positioned};
-ghost use Rattle.graphql_schema_trees.specs.trees.Schema as trees;
+ghost use Rattle.graphql_trees.specs.trees.Schema as trees;
 ghost use Rattle.graphql_schemas.specs.reading.Fields.{field_definition_at};
 ghost use Rattle.graphql_schemas.specs.reading.InputValues.{member_first};
 

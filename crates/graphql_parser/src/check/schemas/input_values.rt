@@ -1,6 +1,6 @@
 //! The check of input values, by GraphQL October 2021, sections 3.6.1 and 3.10.
 ghost use Rattle.graphql_tokens.specs.declared.pos.Positioned.{Positioned};
-ghost use Rattle.graphql_schema_trees.specs.trees.Schema as trees;
+ghost use Rattle.graphql_trees.specs.trees.Schema as trees;
 ghost use Rattle.graphql_parser.specs.Checked.{Checks, Calm};
 ghost use Rattle.graphql_reading.specs.grammar.Tests.{punct};
 ghost use Rattle.graphql_reading.specs.reading.Outcome.{opt_at};

@@ -2,7 +2,7 @@
 //! sections 3.6, 3.8 and 3.9.
 ghost use Rattle.std.specs.Prelude.{ℕ, List};
 ghost use Rattle.graphql_tokens.specs.declared.pos.Positioned.{Positioned};
-ghost use Rattle.graphql_schema_trees.specs.trees.Schema as trees;
+ghost use Rattle.graphql_trees.specs.trees.Schema as trees;
 ghost use Rattle.graphql_parser.specs.Checked.{Checks, Calm};
 ghost use Rattle.graphql_reading.specs.grammar.Tests.{any_name, keyword, punct};
 ghost use Rattle.graphql_reading.specs.reading.Outcome.{opt_at};

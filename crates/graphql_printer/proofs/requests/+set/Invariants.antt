@@ -1,6 +1,6 @@
 use Rattle.std.proofs.Common.{◌≡◌, ◌++◌, drop}
-use Rattle.graphql_request_trees.specs.trees.Request.{set_of}
-use Rattle.graphql_request_trees.specs.trees.RequestViews.{selection_trees}
+use Rattle.graphql_trees.specs.trees.Request.{set_of}
+use Rattle.graphql_trees.specs.trees.RequestViews.{selection_trees}
 use Rattle.graphql_printer.specs.inner.Shown.{by_values}
 use Rattle.graphql_printer.specs.inner.ShownRequests.{shown_selections}
 use Rattle.graphql_printer.proofs.requests.+set.Given as goal

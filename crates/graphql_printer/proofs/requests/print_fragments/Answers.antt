@@ -1,6 +1,6 @@
 use Rattle.std.proofs.Common.{◌++◌, ◌+◌, List, drop, map, ap, ◌∙◌, sym}
 use Rattle.std.specs.List.{flat_map}
-use Rattle.graphql_request_trees.specs.trees.RequestViews.{entry_tree, fragment_tree}
+use Rattle.graphql_trees.specs.trees.RequestViews.{entry_tree, fragment_tree}
 use Rattle.graphql_printer.proofs.PrintedRequests.{at_index}
 use Rattle.graphql_printer.proofs.Printing.{part_printed}
 use Rattle.graphql_printer.specs.inner.Shown.{by_values}

@@ -1,6 +1,6 @@
 use Rattle.std.proofs.Common.{◌≡◌, ◌++◌, drop, map}
 use Rattle.std.specs.List.{flat_map}
-use Rattle.graphql_request_trees.specs.trees.RequestViews.{entry_tree, fragment_tree}
+use Rattle.graphql_trees.specs.trees.RequestViews.{entry_tree, fragment_tree}
 use Rattle.graphql_printer.specs.inner.Shown.{by_values}
 use Rattle.graphql_printer.specs.inner.ShownRequests.{a_fragment, shown_definition}
 use Rattle.graphql_printer.proofs.requests.print_fragments.Given as goal

@@ -1,6 +1,6 @@
 use Rattle.std.proofs.Common.{◌≡◌, ◌++◌, List, drop, map}
 use Rattle.std.specs.List.{flat_map}
-use Rattle.graphql_request_trees.specs.trees.RequestViews.{entry_tree, fragment_tree}
+use Rattle.graphql_trees.specs.trees.RequestViews.{entry_tree, fragment_tree}
 use Rattle.graphql_requests.specs.grammar.Request.{Definition}
 use Rattle.graphql_printer.specs.inner.Shown.{by_values}
 use Rattle.graphql_printer.specs.inner.ShownRequests.{Fragment, after_fragments, shown_definition}

@@ -1,5 +1,5 @@
 use Rattle.std.proofs.Common.{◌++◌, ap, ◌∙◌}
-use Rattle.graphql_request_trees.specs.trees.RequestViews.{document_tree}
+use Rattle.graphql_trees.specs.trees.RequestViews.{document_tree}
 use Rattle.graphql_printer.specs.inner.Shown.{by_values}
 use Rattle.graphql_printer.specs.inner.ShownRequests.{shown_request}
 use Rattle.graphql_printer.proofs.PrintedQueries.{query_printed, query_clear}

@@ -1,7 +1,7 @@
 use Rattle.std.proofs.Common.{◌≡◌, ◌++◌, drop, map}
 use Rattle.std.specs.List.{flat_map}
-use Rattle.graphql_request_trees.proofs.Requests.{operation_trees}
-use Rattle.graphql_request_trees.specs.trees.RequestViews.{document_tree, entry_tree, fragment_tree}
+use Rattle.graphql_trees.proofs.Requests.{operation_trees}
+use Rattle.graphql_trees.specs.trees.RequestViews.{document_tree, entry_tree, fragment_tree}
 use Rattle.graphql_printer.specs.inner.Shown.{by_values}
 use Rattle.graphql_printer.specs.inner.ShownRequests.{arranged, shown_definition, shown_request}
 use Rattle.graphql_printer.proofs.requests.print_request.Given as goal

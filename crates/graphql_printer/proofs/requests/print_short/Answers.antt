@@ -1,5 +1,5 @@
 use Rattle.std.proofs.Common.{sym, ◌∙◌}
-use Rattle.graphql_request_trees.specs.trees.RequestViews.{selection_set_tree}
+use Rattle.graphql_trees.specs.trees.RequestViews.{selection_set_tree}
 use Rattle.graphql_printer.proofs.PrintedRequests.{some_braced}
 use Rattle.graphql_printer.proofs.Printing.{kept, as_tokens}
 use Rattle.graphql_printer.specs.inner.ShownRequests.{shown_selections}

@@ -1,5 +1,5 @@
 use Rattle.std.proofs.Common.{sym, ap, codes, refl}
-use Rattle.graphql_schema_trees.specs.trees.SchemaViews.{kind_tree}
+use Rattle.graphql_trees.specs.trees.SchemaViews.{kind_tree}
 use Rattle.graphql_printer.proofs.PrintedSchemas.{same_led}
 use Rattle.graphql_printer.proofs.Printing.{as_tokens}
 use Rattle.graphql_printer.proofs.Spellings.{sign_spells}

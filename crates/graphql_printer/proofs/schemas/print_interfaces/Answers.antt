@@ -1,5 +1,5 @@
 use Rattle.std.proofs.Common.{sym, ap}
-use Rattle.graphql_schema_trees.specs.trees.SchemaViews.{kind_tree}
+use Rattle.graphql_trees.specs.trees.SchemaViews.{kind_tree}
 use Rattle.graphql_printer.proofs.Printing.{as_tokens}
 use Rattle.graphql_printer.specs.inner.ShownSchemas.{shown_interfaces}
 use Rattle.graphql_printer.proofs.schemas.print_interfaces.Goals as goal

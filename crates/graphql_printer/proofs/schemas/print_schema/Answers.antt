@@ -1,5 +1,5 @@
 use Rattle.std.proofs.Common.{◌++◌, ap, ◌∙◌}
-use Rattle.graphql_schema_trees.specs.trees.SchemaViews.{schema_document_tree}
+use Rattle.graphql_trees.specs.trees.SchemaViews.{schema_document_tree}
 use Rattle.graphql_printer.specs.inner.Shown.{by_values}
 use Rattle.graphql_printer.specs.inner.ShownSchemas.{shown_file}
 use Rattle.graphql_printer.proofs.PrintedFiles.{result_printed, result_clear}

@@ -4,10 +4,10 @@ use Rattle.std.specs.Vec.{vec_len}
 use Rattle.std.specs.declared.alloc.Global.{Global}
 use Rattle.graphql_tokens.specs.declared.pos.Positioned.{Positioned}
 use Rattle.graphql_syntax.specs.trees.Parts.{placed}
-use Rattle.graphql_request_trees.specs.declared.executable.Selection.{Selection}
-use Rattle.graphql_request_trees.specs.declared.executable.SelectionSet.{SelectionSet}
-use Rattle.graphql_request_trees.specs.trees.Request as request
-use Rattle.graphql_request_trees.specs.trees.RequestViews.{selection_tree, selection_set_tree}
+use Rattle.graphql_trees.specs.declared.executable.Selection.{Selection}
+use Rattle.graphql_trees.specs.declared.executable.SelectionSet.{SelectionSet}
+use Rattle.graphql_trees.specs.trees.Request as request
+use Rattle.graphql_trees.specs.trees.RequestViews.{selection_tree, selection_set_tree}
 use Rattle.graphql_requests.specs.reading.SelectionSteps.{with_set}
 use Rattle.graphql_requests.proofs.SelectionTrees.{last-with, field-with, inline-with, spread-with}
 use Rattle.graphql_requests.proofs.selections.fill_last.Goals as goal

@@ -8,7 +8,7 @@ use Rattle.graphql_tokens.specs.tokens.Seen.{seen}
 use Rattle.graphql_tokens.specs.tokens.Token.{Token}
 use Rattle.graphql_requests.specs.reading.Selections.{selection_set_at}
 use Rattle.graphql_syntax.specs.trees.Parts.{placed}
-use Rattle.graphql_request_trees.specs.trees.RequestViews.{selection_tree, selection_trees, selection_set_tree}
+use Rattle.graphql_trees.specs.trees.RequestViews.{selection_tree, selection_trees, selection_set_tree}
 use Rattle.graphql_reading.specs.reading.Ahead.{tokens}
 use Rattle.graphql_requests.proofs.HeadTakes.{head-nests, onto-takes}
 use Rattle.graphql_reading.proofs.Loops.{given-stays}

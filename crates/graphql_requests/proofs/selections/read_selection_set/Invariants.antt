@@ -4,7 +4,7 @@ use Rattle.graphql_reading.specs.reading.Funds.{Spares}
 use Rattle.graphql_reading.specs.reading.Worth.{per_token}
 use Rattle.graphql_requests.specs.contracts.selections.OpenSet.{the_row}
 use Rattle.graphql_requests.specs.reading.SelectionFunds.{selections_credit}
-use Rattle.graphql_request_trees.specs.trees.RequestViews.{selection_trees}
+use Rattle.graphql_trees.specs.trees.RequestViews.{selection_trees}
 use Rattle.graphql_requests.proofs.OpenParts.{Wanted, Behind, nest}
 use Rattle.graphql_requests.proofs.selections.read_selection_set.Given as goal
 

@@ -1,6 +1,6 @@
 use Rattle.std.proofs.Common.{◌≡◌, ◌++◌, map, ◌*◌, length, vec_len, vec_capacity}
 use Rattle.std.specs.Vec.Iter.{into_iter_items}
-use Rattle.graphql_schema_trees.specs.trees.SchemaViews as views
+use Rattle.graphql_trees.specs.trees.SchemaViews as views
 use Rattle.graphql_grammar.specs.answers.Answers.{AreUnbroken}
 use Rattle.graphql_schemas.specs.grammar.Documents as documents
 use Rattle.graphql_schemas.specs.grammar.Schemas.{schemas}

@@ -2,8 +2,8 @@ use Rattle.std.proofs.Common.{Option, option_map, sym, refl, ap, ◌∙◌}
 use Rattle.std.proofs.lemmas.Result.{err_from_is_err_and}
 use Rattle.graphql_tokens.specs.declared.pos.Positioned.{Positioned}
 use Rattle.graphql_syntax.specs.trees.Parts.{placed}
-use Rattle.graphql_request_trees.specs.declared.executable.FragmentDefinition.{FragmentDefinition}
-use Rattle.graphql_request_trees.specs.trees.RequestViews.{fragment_tree}
+use Rattle.graphql_trees.specs.declared.executable.FragmentDefinition.{FragmentDefinition}
+use Rattle.graphql_trees.specs.trees.RequestViews.{fragment_tree}
 use Rattle.graphql_grammar.specs.declared.error.Error.TheVariants.{FragmentDuplicated}
 use Rattle.graphql_requests.proofs.OneMore.{insert-last}
 use Rattle.graphql_requests.proofs.Sorted.{sorted-fragment, fragment-breach}

@@ -2,9 +2,9 @@ use Rattle.std.proofs.Common.{List, sym, ap, ◌∙◌}
 use Rattle.std.proofs.lemmas.List.{take-map, drop-map}
 use Rattle.graphql_tokens.specs.declared.pos.Positioned.{Positioned}
 use Rattle.graphql_syntax.specs.trees.Parts.{placed}
-use Rattle.graphql_request_trees.specs.trees.Request as request
-use Rattle.graphql_request_trees.specs.trees.RequestViews.{selection_tree, selection_set_tree, selection_trees}
-use Rattle.graphql_request_trees.proofs.Requests.{set_tree_roll}
+use Rattle.graphql_trees.specs.trees.Request as request
+use Rattle.graphql_trees.specs.trees.RequestViews.{selection_tree, selection_set_tree, selection_trees}
+use Rattle.graphql_trees.proofs.Requests.{set_tree_roll}
 use Rattle.graphql_requests.proofs.selections.OpenSet.close.Goals as goal
 
 pub returns-then-self-gt0-clause-set : goal.returns-then-self-gt0-clause-set

@@ -1,3 +1,0 @@
-pub mod Entries
-pub mod Requests
-pub mod SameTrees

@@ -1,3 +1,0 @@
--- Public: the trees that requests stand for.
-pub mod Request
-pub mod RequestViews

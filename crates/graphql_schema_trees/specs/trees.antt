@@ -1,3 +1,0 @@
--- Public: the trees that schema files stand for.
-pub mod Schema
-pub mod SchemaViews

@@ -1,0 +1,4 @@
+pub mod Entries
+pub mod Requests
+pub mod SameRequests
+pub mod SameSchemas
