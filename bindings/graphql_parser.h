@@ -178,12 +178,14 @@ uint32_t graphql_parser_parse_schema(
 
 /* The same as a check and a parse, within a budget.
  *
- * memory                   how many bytes reading the text may take: those of each block that is asked for, of a block that
- *                          grows those that are added, and of each named operation or fragment those of its place in a map.
- *                          Freed bytes still count. The JSON and what writing it takes don't.
+ * memory                   how many bytes reading the text may take, by this count: those of each block that is asked for; of a
+ *                          block that grows those that are added, though both blocks are held while it moves; of each named
+ *                          operation or fragment its name's and its node's and 16 more, whatever blocks their maps ask for.
+ *                          Freed bytes still count. A list that moves into a block of just its length, the JSON and what
+ *                          writing it takes don't.
  *
- * For a text that needs more the status is GRAPHQL_PARSER_OUT_OF_MEMORY, as if `malloc` failed. No text of n bytes needs more
- * than 1105 * n + 1161 bytes, and no check of a schema file, or of a request of one definition, more than 57. */
+ * For a text that needs more the status is GRAPHQL_PARSER_OUT_OF_MEMORY, as if `malloc` failed. By this count no text of n bytes
+ * needs more than 1105 * n + 1161 bytes, and no check of a schema file, or of a request of one definition, more than 57. */
 uint32_t graphql_parser_check_query_within(
     const uint8_t *text, size_t length, size_t selections, size_t values, size_t types, size_t memory,
     graphql_parser_places *places);

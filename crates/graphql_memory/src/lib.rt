@@ -1,7 +1,12 @@
 //! Who takes memory for a parser, and what it means that it was refused.
 //!
-//! Proved of it: each call takes what it grants off the budget, to the byte, and fails only where the heap refused a request
-//! or one was for more than was left; and it makes what the call of the library makes that it stands for.
+//! Proved of it is the account: each call takes off the budget what it counts for what it grants, to the byte, and fails only
+//! if it was denied, as the heap's answer, which is kept, or for more than was left; and it makes what the call of the library
+//! makes that it stands for.
+//!
+//! No contract says what the heap was asked for, nor that an allocation succeeds. That a denial which is kept is the heap's,
+//! and that nothing is taken beside the account, is by the shape of the code: only this crate has the heap of a `Memory`, each
+//! call here counts and then asks, and `tools/checks` finds no other way to the heap in the crates of readers.
 #![tactic(auto)]
 
 ghost use Rattle.std.specs.Prelude.{◌≡◌, ◌≢◌, ◌≤◌, ◌<◌, ◌⊎◌, ◌↔◌, ◌+◌, ◌*◌, ◌^◌, OnOk, OnErr, true};
@@ -15,12 +20,16 @@ mod texts;
 use std::alloc::{AllocError, Global};
 use std::mem::size_of;
 
-/// Takes memory from the heap, up to so many bytes, and tells whether the heap refused a request or one was for more than
-/// was left.
+/// Takes memory from the heap, up to so many bytes by its own count, and knows whether the heap denied a request or one was
+/// for more than was left.
 ///
-/// What it counts is the bytes of each block that is asked for, and where a list or a text grows the bytes that are
-/// added; for a map, at each insertion, those of the key and the value and sixteen more. What is given back isn't
-/// counted off.
+/// It counts:
+/// - for a list, a box or a text that is made: the bytes of its block
+/// - for a list or a text that grows: the bytes that are added. The old block and the new one are both held for a moment
+/// - for each insertion into a map: the bytes of the key and the value, and sixteen more, whatever blocks the map asks for (the
+///   first has room for several pairs)
+///
+/// It counts nothing off for what is freed, and nothing for a list that is moved into a block of just its length.
 #[derive(Drop)]
 pub struct Memory {
     heap: Global,
@@ -41,7 +50,7 @@ pub(crate) fn size_of_one<T>() -> usize
 }
 
 impl Memory {
-    /// Memory with no bound but the heap's.
+    /// Memory of so many bytes as a budget can have, 2^64 - 1: in effect no bound but the heap's.
     #[inline(always)]
     pub fn new(heap: Global) -> Memory
         ensures left { result.left + 1 ≡ 2 ^ 64 }
@@ -51,7 +60,7 @@ impl Memory {
         Memory::with_budget(heap, usize::MAX)
     }
 
-    /// Memory of so many bytes at most.
+    /// Memory of so many bytes at most, as it counts them.
     #[inline(always)]
     pub fn with_budget(heap: Global, bytes: usize) -> Memory
         ensures left { result.left ≡ bytes }
@@ -64,12 +73,6 @@ impl Memory {
             lacking: 0,
             refusals: 0,
         }
-    }
-
-    /// The heap, for what is made of it without taking memory.
-    #[inline(always)]
-    pub fn heap(&self) -> Global {
-        self.heap
     }
 
     /// As much memory as is left, for one call, which gives it back to [`settle`](Memory::settle).
@@ -95,7 +98,7 @@ impl Memory {
         }
     }
 
-    /// The bytes that may still be taken.
+    /// The bytes that may still be taken, as it counts them.
     #[inline(always)]
     pub fn left(&self) -> usize
         ensures { result ≡ self.now.left }
@@ -103,7 +106,7 @@ impl Memory {
         self.left
     }
 
-    /// Whether the heap has refused a request.
+    /// Whether the heap has denied a request, or one was for more bytes than a `usize` counts.
     #[inline(always)]
     pub fn heap_refused(&self) -> bool
         ensures { (result ≡ true) ↔ (self.now.refusals ≢ 0) }

@@ -11,6 +11,27 @@ use std::collections::BTreeMap;
 use std::hash::{BuildHasher, Hash};
 
 impl Memory {
+    /// An empty map that keeps its order, and hashes by `hasher`. It takes no memory.
+    #[inline(always)]
+    pub fn empty_indexed<K: Eq + Hash, V, S: BuildHasher>(&self, hasher: S) -> IndexMap<K, V, S>
+        ensures empty { indexed.IsEmpty result }
+        ensures len { indexed.index_map_len result ≡ 0 }
+        ensures hasher { indexed.hasher_of result ≡ hasher }
+        ensures unique { indexed.IsUnique K.eq result }
+    {
+        IndexMap::with_hasher(self.heap, hasher)
+    }
+
+    /// An empty map that is ordered by its keys. It takes no memory.
+    #[inline(always)]
+    pub fn empty_ordered<K: Ord, V>(&self) -> BTreeMap<K, V>
+        ensures empty { ordered.IsEmpty result }
+        ensures len { ordered.btree_map_len result ≡ 0 }
+        ensures ordered { ordered.IsOrdered K.cmp result }
+    {
+        BTreeMap::new(self.heap)
+    }
+
     // Takes what is counted for a pair of a map off the budget: its key, its value, and two words.
     #[inline(always)]
     fn spend_for_pair<K, V>(&mut self) -> Result<(), AllocError>

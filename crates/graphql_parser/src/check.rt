@@ -114,8 +114,8 @@ pub fn check_query_limited(alloc: Global, text: &str, limits: Limits) -> Result<
 }
 
 /// As [`check_query_limited`], with who takes memory, as a budget bounds it. A text of n bytes takes at most
-/// 1,105 n + 1,161 of them, and 57 where nothing but its end stands after its first definition. `OutOfMemory` is answered
-/// only where the heap refused a request, or less than that was left.
+/// 1,105 n + 1,161 bytes as [`Memory`] counts them, and 57 if only its end is after its first definition. `OutOfMemory` is
+/// returned only if a request to `memory` was denied: the heap denied it, or less than that was left.
 pub fn check_query_within(memory: &mut Memory, text: &str, limits: Limits) -> Result<()>
     ensures reads { ReadsText (checked requests) limits text.now result }
     ensures as_parsed { IsAsParsedText requests limits text.now result }

@@ -1,16 +1,17 @@
 //! A parser of GraphQL: a text goes in, a request or a schema file; one tree with the place of each node, or one
 //! named error, comes out.
 //!
-//! Proved of `parse_query` and `parse_schema`, and of their `_limited` and `_from` forms, unless memory runs out: where
-//! the text's tokens have a tree within the limits, it is the only one, and it is given, or else the first rule that it
+//! Proved of `parse_query` and `parse_schema`, and of their `_limited` and `_from` forms, unless the answer is `OutOfMemory`:
+//! where the text's tokens have a tree within the limits, it is the only one, and it is given, or else the first rule that it
 //! breaks is told. Where they have none, the answer is `RecursionLimitExceeded` or `Syntax`, at the first token whose
 //! front no document completes, and which of the two it is depends on whether a deeper one does. The texts and the
 //! places of each `Error` are written definitions too. `check_query`, `check_schema` and
 //! their forms answer as the parses do, and make no tree.
 //!
 //! Proved of their `_within` forms also: by the count of the caller's [`Memory`] a text of n bytes takes at most
-//! 1,105 n + 1,161 bytes, and `OutOfMemory` is returned only if the heap refused a request or less than that was left. That
-//! nothing is allocated beside the `Memory` is kept by the shape of the code, and tested.
+//! 1,105 n + 1,161 bytes, and `OutOfMemory` is returned only if by that count a request was denied, by the heap or because less
+//! than that was left. That nothing is allocated beside the `Memory`, and that it denies only if the heap or the budget does,
+//! is kept by the shape of the code, and tested.
 //!
 //! A user names this crate alone: the checks stand in the module `check`, and all else is given out from the crates
 //! below. What a reader of the contracts has to believe is given out by `specs/Lib.antt`.

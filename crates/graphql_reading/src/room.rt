@@ -17,12 +17,6 @@ use std::collections::BTreeMap;
 use std::default::MadeWith;
 
 impl Parser<'_> {
-    /// The heap, for what is made of it without taking memory.
-    #[inline(always)]
-    pub fn heap(&self) -> Global {
-        self.memory.heap()
-    }
-
     /// An empty list. It takes no memory.
     #[inline(always)]
     pub fn empty_list<T>(&self) -> Vec<T>
@@ -139,6 +133,16 @@ impl Parser<'_> {
         ensures stays { Stays self.old self.new }
     {
         self.memory.push_small(list, item)
+    }
+
+    /// An empty map that is ordered by its keys. It takes no memory.
+    #[inline(always)]
+    pub fn empty_ordered<K: Ord, V>(&self) -> BTreeMap<K, V>
+        ensures empty { ordered.IsEmpty result }
+        ensures len { ordered.btree_map_len result ≡ 0 }
+        ensures ordered { ordered.IsOrdered K.cmp result }
+    {
+        self.memory.empty_ordered()
     }
 
     /// Inserts a pair into a map that is ordered by its keys.

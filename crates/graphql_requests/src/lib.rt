@@ -32,8 +32,8 @@ use graphql_grammar::document::read_document;
 use graphql_grammar::error::Result;
 use graphql_memory::Memory;
 use graphql_reading::limits::Limits;
-use graphql_trees::ExecutableDocument;
 use graphql_tokens::lexer::Tokens;
+use graphql_trees::ExecutableDocument;
 use rules::KeptDefinitions;
 use std::alloc::Global;
 
@@ -68,8 +68,8 @@ pub fn parse_query_limited(alloc: Global, text: &str, limits: Limits) -> Result<
 }
 
 /// As [`parse_query_limited`], with who takes memory, as a budget bounds it (this project's own call). A text of n bytes
-/// takes at most 1,105 n + 1,161 of them. `OutOfMemory` is answered only where the heap refused a request, or less than
-/// that was left.
+/// takes at most 1,105 n + 1,161 bytes as [`Memory`] counts them. `OutOfMemory` is returned only if a request to `memory` was
+/// denied: the heap denied it, or less than that was left.
 pub fn parse_query_within(
     memory: &mut Memory,
     text: &str,

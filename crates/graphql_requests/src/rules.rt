@@ -22,12 +22,11 @@ use graphql_memory::Memory;
 use graphql_reading::limits::Limits;
 use graphql_reading::parser::{Parser, Reading};
 use graphql_reading::production::one_or_more;
+use graphql_syntax::pos::{Pos, Positioned};
+use graphql_syntax::value::Name;
 use graphql_trees::{
     DocumentOperations, ExecutableDocument, FragmentDefinition, NameMap, OperationDefinition,
 };
-use graphql_syntax::pos::{Pos, Positioned};
-use graphql_syntax::value::Name;
-use indexmap::IndexMap;
 
 /// The definitions so far, which break no rule, by what they are.
 #[derive(Drop)]
@@ -49,8 +48,8 @@ impl Sorted {
         let seed = seed_of(definitions);
         Sorted {
             anonymous: None,
-            operations: IndexMap::with_hasher(memory.heap(), seed),
-            fragments: IndexMap::with_hasher(memory.heap(), seed),
+            operations: memory.empty_indexed(seed),
+            fragments: memory.empty_indexed(seed),
         }
     }
 

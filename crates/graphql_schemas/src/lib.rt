@@ -45,8 +45,8 @@ use graphql_memory::Memory;
 use graphql_reading::limits::Limits;
 use graphql_reading::parser::{Parser, Reading};
 use graphql_reading::production::one_or_more;
-use graphql_trees::ServiceDocument;
 use graphql_tokens::lexer::Tokens;
+use graphql_trees::ServiceDocument;
 use rules::document_of;
 use std::alloc::Global;
 
@@ -121,8 +121,8 @@ pub fn parse_schema_limited(alloc: Global, text: &str, limits: Limits) -> Result
 }
 
 /// As [`parse_schema_limited`], with who takes memory, as a budget bounds it (this project's own call). A text of n bytes
-/// takes at most 1,105 n + 1,161 of them. `OutOfMemory` is answered only where the heap refused a request, or less than
-/// that was left.
+/// takes at most 1,105 n + 1,161 bytes as [`Memory`] counts them. `OutOfMemory` is returned only if a request to `memory` was
+/// denied: the heap denied it, or less than that was left.
 pub fn parse_schema_within(
     memory: &mut Memory,
     text: &str,

@@ -37,7 +37,7 @@ fn places_of<V>(parser: &mut Parser, fields: &[(Name, V)]) -> Result<Vec<usize>,
     ensures refused { OnErr result (Refused parser.new.memory) }
     ensures stays { Stays parser.old parser.new }
 {
-    let mut known: BTreeMap<&Name, usize> = BTreeMap::new(parser.heap());
+    let mut known: BTreeMap<&Name, usize> = parser.empty_ordered();
     let mut found = parser.list_for(fields)?;
     for (name, _) in fields {
         let place = match known.get(&name) {

@@ -16,7 +16,6 @@ use graphql_grammar::error::{Error, Result};
 use graphql_memory::Memory;
 use graphql_syntax::pos::Pos;
 use graphql_syntax::value::Name;
-use std::alloc::Global;
 use std::collections::BTreeMap;
 
 /// What the rules have to know of the definitions so far, which break none.
@@ -31,14 +30,14 @@ struct Sorted<'a> {
 }
 
 impl<'a> Sorted<'a> {
-    fn new(heap: Global) -> Sorted<'a>
+    fn new(memory: &Memory) -> Sorted<'a>
         ensures { IsSorted [] result }
     {
         Sorted {
             first: None,
             anonymous: None,
-            operations: BTreeMap::new(heap),
-            fragments: BTreeMap::new(heap),
+            operations: memory.empty_ordered(),
+            fragments: memory.empty_ordered(),
         }
     }
 
@@ -149,7 +148,7 @@ pub fn judge(memory: &mut Memory, heads: &[Head]) -> Result<()>
     if heads.len() == 1 {
         return judge_one(heads[0]);
     }
-    let mut sorted = Sorted::new(memory.heap());
+    let mut sorted = Sorted::new(memory);
     for head in heads {
         sorted.add(memory, *head)?;
     }

@@ -97,8 +97,9 @@ pub fn check_schema_limited(alloc: Global, text: &str, limits: Limits) -> Result
     check_schema_within(&mut Memory::new(alloc), text, limits)
 }
 
-/// As [`check_schema_limited`], with who takes memory, as a budget bounds it. A message's 57 bytes are all that it takes.
-/// `OutOfMemory` is answered only where the heap refused a request, or less than that was left.
+/// As [`check_schema_limited`], with who takes memory, as a budget bounds it. As [`Memory`] counts it takes at most the 57
+/// bytes of a message. `OutOfMemory` is returned only if a request to `memory` was denied: the heap denied it, or less than
+/// that was left.
 pub fn check_schema_within(memory: &mut Memory, text: &str, limits: Limits) -> Result<()>
     ensures reads { ReadsText (checked schemas) limits text.now result }
     ensures as_parsed { IsAsParsedText schemas limits text.now result }
