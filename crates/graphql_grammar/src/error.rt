@@ -1,6 +1,7 @@
 //! Why a text is refused.
 ghost use Rattle.std.specs.Prelude.{◌≡◌, Some};
-ghost use Rattle.graphql_grammar.specs.errors.Errors.{error_text, error_places};
+ghost use Rattle.graphql_grammar.specs.errors.Errors.{error_text, error_places, AreEqualErrors};
+ghost use Rattle.graphql_grammar.specs.errors.Small.{IsSmallError};
 ghost use Rattle.graphql_grammar.specs.declared.error.Error.TheVariants.{OutOfMemory};
 
 use crate::positions::ErrorPositions;
@@ -17,7 +18,7 @@ pub type Result<T> = std::result::Result<T, Error>;
 ///
 /// Each place is a line and a column, both counted from 1. The names of the cases and of their fields,
 /// and the texts, are those of the Rust crate `async-graphql-parser`; `OutOfMemory` is this project's own.
-#[derive(Clone, Debug, PartialEq, Eq, Drop)]
+#[derive(Debug, PartialEq, Eq, Drop)]
 pub enum Error {
     /// The text has no tree: no tree completes the tokens up to and with the one at `start`.
     Syntax {
@@ -109,6 +110,61 @@ impl Error {
             Error::MissingOperation | Error::RecursionLimitExceeded | Error::OutOfMemory => {
                 ErrorPositions::none()
             }
+        }
+    }
+}
+
+/// An equal error. A clone fails only where no memory is left for its message, or for a name of more than 22 bytes.
+impl Clone for Error {
+    ghost is_clone = { AreEqualErrors };
+
+    ghost is_infallible = { IsSmallError };
+
+    fn clone(&self) -> std::result::Result<Error, AllocError> {
+        match self {
+            Error::Syntax {
+                message,
+                start,
+                end,
+            } => Ok(Error::Syntax {
+                message: message.clone()?,
+                start: *start,
+                end: *end,
+            }),
+            Error::MultipleRoots { root, schema, pos } => Ok(Error::MultipleRoots {
+                root: *root,
+                schema: *schema,
+                pos: *pos,
+            }),
+            Error::MissingQueryRoot { pos } => Ok(Error::MissingQueryRoot { pos: *pos }),
+            Error::MultipleOperations {
+                anonymous,
+                operation,
+            } => Ok(Error::MultipleOperations {
+                anonymous: *anonymous,
+                operation: *operation,
+            }),
+            Error::OperationDuplicated {
+                operation,
+                first,
+                second,
+            } => Ok(Error::OperationDuplicated {
+                operation: operation.clone()?,
+                first: *first,
+                second: *second,
+            }),
+            Error::FragmentDuplicated {
+                fragment,
+                first,
+                second,
+            } => Ok(Error::FragmentDuplicated {
+                fragment: fragment.clone()?,
+                first: *first,
+                second: *second,
+            }),
+            Error::MissingOperation => Ok(Error::MissingOperation),
+            Error::RecursionLimitExceeded => Ok(Error::RecursionLimitExceeded),
+            Error::OutOfMemory => Ok(Error::OutOfMemory),
         }
     }
 }
