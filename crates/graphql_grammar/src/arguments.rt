@@ -87,7 +87,7 @@ impl<V: Literal> Production for ArgumentPhrase<V> {
     }
 }
 
-/// Reads arguments with their brackets, in source order, where a `(` is in hand; else there are none.
+/// Reads arguments with their brackets, in source order, if the lookahead is a `(`; else there are none.
 ///
 /// `Arguments? : ('(' Argument+ ')')?` (GraphQL October 2021, section 2.6)
 // Most fields have none: so the bracket is tested before the call.
@@ -134,7 +134,7 @@ impl<D: DirectiveNode<V>, V: Literal> Production for DirectivePhrase<D, V> {
     }
 }
 
-/// Reads directives, as long as an `@` is in hand, in source order.
+/// Reads directives, as long as the lookahead is an `@`, in source order.
 ///
 /// `Directives? : Directive*` (GraphQL October 2021, section 2.12)
 #[inline(always)]
@@ -158,7 +158,7 @@ pub fn read_const_directives(
     any_number::<DirectivePhrase<ConstDirective, ConstValue>>(parser, limits)
 }
 
-/// Reads a default value after its `=`, where a `=` is in hand.
+/// Reads a default value after its `=`, if the lookahead is a `=`.
 ///
 /// `DefaultValue? : ('=' Value[Const])?` (GraphQL October 2021, section 2.10)
 #[tactic(auto, unfolding(graphql_reading::specs::reading::Outcome::opt_at))]

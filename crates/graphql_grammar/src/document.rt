@@ -52,7 +52,7 @@ pub trait Kept<'a>: Drop {
     // How they are read from a list of tokens.
     ghost reader: { SpecLimits → Reader (List Self.Tree) };
 
-    /// Reads the definitions of a text, and its end, which stays in hand.
+    /// Reads the definitions of a text, and its end, which stays the lookahead.
     fn read_all(parser: &mut Parser<'a>, limits: Limits) -> Reading<Self>
         ensures gives { GivesWhole Self.kept result parser.old parser.new
             (mapped_at Self.sum (whole_at (Self.reader limits))) }

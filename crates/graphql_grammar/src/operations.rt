@@ -10,7 +10,7 @@ use graphql_reading::parser::{Parser, Reading, Refusal};
 use graphql_syntax::types::OperationType;
 use graphql_tokens::lexer::Token;
 
-/// Reads the keyword of an operation, and gives it with the kind that it tells.
+/// Reads the keyword of an operation, and gives it with the kind that it means.
 ///
 /// `OperationType : 'query' | 'mutation' | 'subscription'`
 pub fn read_operation_type<'a>(parser: &mut Parser<'a>) -> Reading<(Token<'a>, OperationType)>

@@ -50,7 +50,7 @@ pub(crate) fn size_of_one<T>() -> usize
 }
 
 impl Memory {
-    /// Memory of so many bytes as a budget can have, 2^64 - 1: in effect no bound but the heap's.
+    /// Memory of as many bytes as a budget can have, 2^64 - 1: in effect no bound but the heap's.
     #[inline(always)]
     pub fn new(heap: Global) -> Memory
         ensures left { result.left + 1 ≡ 2 ^ 64 }
@@ -60,7 +60,7 @@ impl Memory {
         Memory::with_budget(heap, usize::MAX)
     }
 
-    /// Memory of so many bytes at most, as it counts them.
+    /// Memory of at most `bytes` bytes, as it counts them.
     #[inline(always)]
     pub fn with_budget(heap: Global, bytes: usize) -> Memory
         ensures left { result.left ≡ bytes }
@@ -114,7 +114,7 @@ impl Memory {
         self.refusals != 0
     }
 
-    // Takes so many bytes off the budget.
+    // Takes `bytes` off the budget.
     #[inline]
     fn spend(&mut self, bytes: usize) -> Result<(), AllocError>
         ensures takes { Takes bytes self.old self.new }
@@ -130,7 +130,7 @@ impl Memory {
         Ok(())
     }
 
-    // Takes the bytes of so many values off the budget.
+    // Takes the bytes of `places` values off the budget.
     #[inline(always)]
     fn spend_for<T>(&mut self, places: usize) -> Result<(), AllocError>
         ensures takes { Takes (bytes T.row * places) self.old self.new }

@@ -107,7 +107,7 @@ impl Memory {
         self.push_with_room(list, item, FIRST)
     }
 
-    /// The same; an empty list has room for so many items first, four at most.
+    /// The same; an empty list first gets room for `items` items, four at most.
     #[inline(always)]
     pub fn push_with_room<T: Drop>(
         &mut self,

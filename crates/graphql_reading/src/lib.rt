@@ -1,5 +1,5 @@
 //! What the grammars of requests and schema files are written in and read with, whatever their trees are: the
-//! notation of the grammar, limits, fronts and verdicts; the parser with one token in hand; and the theory of
+//! notation of the grammar, limits, fronts and verdicts; the parser with one token of lookahead; and the theory of
 //! readers that follow a production exactly.
 //!
 //! Proved of it: the parser shows the tokens that are left of the lexer's list and takes one only when the one in

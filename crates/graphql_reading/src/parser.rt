@@ -1,4 +1,4 @@
-//! Reading a text token by token, with one token in hand.
+//! Reading a text token by token, with one token of lookahead.
 ghost use Rattle.std.specs.Prelude.{◌≡◌, ◌≢◌, ◌≤◌, ◌+◌, length, ◌&&◌, true, false, ◌++◌, ◌∷◌, [], Ok, IfOk, OnOk, OnErr, vec_len};
 ghost use Rattle.graphql_memory.specs.Memory.{Refused, Takes};
 ghost use Rattle.graphql_tokens.specs.tokens.Cuts.{is_last, EndsOnce};
@@ -29,14 +29,14 @@ use std::marker::Model;
 pub enum Refusal {
     /// Memory was refused.
     Memory,
-    /// No document goes on with the token in hand.
+    /// No document goes on with the lookahead.
     Syntax,
-    /// Only a document that nests deeper than is allowed goes on with the token in hand.
+    /// Only a document that nests deeper than is allowed goes on with the lookahead.
     Limit,
 }
 
-/// What a reader gives: what begins with the token in hand, and then the token after it is in hand; or why there is no
-/// such thing, with the refused token in hand. Where memory ran out, the parser is somewhere in between.
+/// What a reader gives: what begins with the lookahead, and then the token after it is the lookahead; or why there is
+/// no such thing, with the rejected token as the lookahead. Where memory ran out, the parser is somewhere in between.
 pub type Reading<T> = Result<T, Refusal>;
 
 impl From<AllocError> for Refusal {
@@ -59,7 +59,8 @@ fn mark_of(kind: TokenKind, text: &str) -> u8
     0
 }
 
-/// Reads one text: the tokens that are still to come, of which the first is in hand, and who takes memory. The tokens after the first are taken from the lexer one by one, each when the one before it is used up.
+/// Reads one text: the tokens that are still to come, of which the first is the lookahead, and who takes memory. The
+/// tokens after the first are taken from the lexer one by one, each when the one before it is used up.
 #[derive(Drop)]
 pub struct Parser<'a> {
     tokens: Tokens<'a>,
@@ -78,7 +79,7 @@ impl<'a> Model for Parser<'a> {
 }
 
 impl<'a> Parser<'a> {
-    /// Takes the first token in hand. The caller owes that one is left: `tokens.is_ended()` is false.
+    /// Takes the first token as the lookahead. The caller owes that one is left: `tokens.is_ended()` is false.
     pub fn new(memory: Memory, mut tokens: Tokens<'a>) -> Parser<'a>
         requires { left tokens ≢ [] }
         ensures left { ahead result ≡ left tokens.entry }
@@ -99,7 +100,7 @@ impl<'a> Parser<'a> {
         }
     }
 
-    /// The tokens that are still to come, after the one in hand, and who takes memory.
+    /// The tokens that are still to come, after the lookahead, and who takes memory.
     pub fn into_parts(self) -> (Tokens<'a>, Memory)
         ensures left { left result.0 ≡ self.entry.after }
         ensures text { result.0.text ≡ self.entry.source.text }
@@ -112,7 +113,7 @@ impl<'a> Parser<'a> {
         (tokens, memory)
     }
 
-    /// Uses up the token in hand and takes the next. The caller owes that it isn't the last one.
+    /// Uses up the lookahead and takes the next. The caller owes that it isn't the last one.
     // Field by field: a copy of the whole would carry the padding along.
     #[inline(never)]
     pub fn advance(&mut self)
@@ -131,7 +132,7 @@ impl<'a> Parser<'a> {
         self.mark = mark_of(next.kind, next.text);
     }
 
-    /// The token in hand.
+    /// The lookahead.
     #[inline(always)]
     pub fn hand(&self) -> Token<'a>
         ensures token { seen result ≡ self.now.hand }
@@ -176,7 +177,7 @@ impl<'a> Parser<'a> {
         )
     }
 
-    /// Gives the token in hand and takes the next. The caller owes that it isn't the last one.
+    /// Gives the lookahead and takes the next. The caller owes that it isn't the last one.
     #[inline(always)]
     pub fn take(&mut self) -> Token<'a>
         requires { is_last self.old.hand.bare.kind ≡ false }
@@ -193,7 +194,7 @@ impl<'a> Parser<'a> {
         token
     }
 
-    /// Whether this punctuator is in hand.
+    /// Whether the lookahead is this punctuator.
     #[inline(always)]
     pub fn is_at_punct(&self, text: &str) -> bool
         ensures { result ≡ punct_of text.now self.now.hand.bare }
@@ -205,7 +206,7 @@ impl<'a> Parser<'a> {
         self.hand.kind.is_punct() && self.hand.text == text
     }
 
-    /// Whether a name is in hand.
+    /// Whether the lookahead is a name.
     #[inline(always)]
     pub fn is_at_name(&self) -> bool
         ensures { result ≡ tests.any_name self.now.hand.bare }
@@ -213,7 +214,7 @@ impl<'a> Parser<'a> {
         self.hand.kind.is_name()
     }
 
-    /// Whether this keyword is in hand.
+    /// Whether the lookahead is this keyword.
     #[inline(always)]
     pub fn is_at_keyword(&self, word: &str) -> bool
         ensures { result ≡ keyword_of word.now self.now.hand.bare }
@@ -221,7 +222,7 @@ impl<'a> Parser<'a> {
         self.hand.kind.is_name() && self.hand.text == word
     }
 
-    /// Uses up this punctuator, where it is in hand, and tells whether it was.
+    /// Uses up this punctuator, if the lookahead is it, and returns whether it was.
     #[inline(always)]
     pub fn take_punct(&mut self, text: &str) -> bool
         ensures gives { Gives (λ taken. taken) (Ok result) self.old self.new
@@ -237,7 +238,7 @@ impl<'a> Parser<'a> {
         is_there
     }
 
-    /// Uses up this punctuator and gives it; anything else in hand is refused with `Syntax`.
+    /// Uses up this punctuator and gives it; any other lookahead is rejected with `Syntax`.
     #[inline(always)]
     pub fn expect_punct(&mut self, text: &str) -> Reading<Token<'a>>
         ensures gives { Gives seen result self.old self.new (one_at (punct_of text.now)) }
@@ -251,7 +252,7 @@ impl<'a> Parser<'a> {
         Ok(self.take())
     }
 
-    /// Uses up a name and gives it; anything else in hand is refused with `Syntax`.
+    /// Uses up a name and gives it; any other lookahead is rejected with `Syntax`.
     #[inline(always)]
     pub fn expect_name(&mut self) -> Reading<Token<'a>>
         ensures name { Gives seen result self.old self.new (one_at tests.any_name) }
@@ -266,7 +267,7 @@ impl<'a> Parser<'a> {
         Ok(self.take())
     }
 
-    /// Uses up this keyword and gives it; anything else in hand is refused with `Syntax`.
+    /// Uses up this keyword and gives it; any other lookahead is rejected with `Syntax`.
     #[inline(always)]
     pub fn expect_keyword(&mut self, word: &str) -> Reading<Token<'a>>
         ensures gives { Gives seen result self.old self.new (one_at (keyword_of word.now)) }
@@ -280,7 +281,7 @@ impl<'a> Parser<'a> {
         Ok(self.take())
     }
 
-    /// The end of the text has to be in hand, and stays there; anything else is refused with `Syntax`.
+    /// The lookahead has to be the end of the text, and stays it; anything else is rejected with `Syntax`.
     pub fn expect_end(&self) -> Reading<()>
         ensures { GivesWhole (λ _. self.now.hand) result self.now self.now (one_at tests.the_end) }
     {

@@ -38,7 +38,7 @@ pub trait Production {
     /// isn't said. A longer list grows. More than four count as four.
     const ROOM: usize = 1;
 
-    /// Whether the token in hand begins a phrase.
+    /// Whether the lookahead begins a phrase.
     fn is_next(parser: &Parser) -> bool
         ensures { result ≡ Self.first parser.now.hand.bare };
 
@@ -48,7 +48,7 @@ pub trait Production {
         ensures pays { Pays Self.spare result parser.old parser.new };
 }
 
-/// Reads one phrase or more: another as long as the token in hand begins one.
+/// Reads one phrase or more: another as long as the lookahead begins one.
 #[inline(always)]
 pub fn one_or_more<P: Production>(parser: &mut Parser, limits: Limits) -> Reading<Vec<P::Node>>
     requires takes { Takes (P.reader limits) }
@@ -93,7 +93,7 @@ pub fn separated<P: Production>(
     }
 }
 
-/// Reads any number of phrases: another as long as the token in hand begins one.
+/// Reads any number of phrases: another as long as the lookahead begins one.
 #[inline(always)]
 pub fn any_number<P: Production>(parser: &mut Parser, limits: Limits) -> Reading<Vec<P::Node>>
     requires takes { Takes (P.reader limits) }
@@ -108,7 +108,7 @@ pub fn any_number<P: Production>(parser: &mut Parser, limits: Limits) -> Reading
     one_or_more::<P>(parser, limits)
 }
 
-/// Reads one phrase or more between two brackets, where the first bracket is in hand; else there are none.
+/// Reads one phrase or more between two brackets, if the lookahead is the first bracket; else there are none.
 // Never inlined, with its loop: a caller whose lists are mostly left out tests the bracket itself.
 #[tactic(auto, unfolding(crate::specs::reading::Outcome::opt_at))]
 #[inline(never)]

@@ -137,7 +137,7 @@ impl Production for Definition {
 
     ghost reader = { definition_at };
 
-    /// Whether a `{`, the keyword of an operation, or `fragment` is in hand.
+    /// Whether the lookahead is `{`, the keyword of an operation, or `fragment`.
     fn is_next(parser: &Parser) -> bool {
         parser.is_at_punct("{")
             || parser.is_at_keyword("query")

@@ -28,7 +28,7 @@ pub enum Definition {
     Directive(Positioned<DirectiveDefinition>),
 }
 
-/// Whether a definition or an extension is in hand.
+/// Whether the lookahead is a definition or an extension.
 pub fn is_at_definition(parser: &Parser) -> bool
     ensures { result ≡ definition_first parser.now.hand.bare }
 {

@@ -12,7 +12,7 @@ use graphql_grammar::strings::{read_block, read_string};
 use graphql_reading::parser::{Parser, Reading};
 use graphql_syntax::pos::{Pos, Positioned};
 
-/// Whether a description is in hand.
+/// Whether the lookahead is a description.
 #[inline(always)]
 pub fn is_at_description(parser: &Parser) -> bool
     ensures { result ≡ is_text parser.now.hand.bare }
@@ -35,7 +35,7 @@ fn read_description(parser: &mut Parser) -> Reading<Positioned<String>>
     Ok(Positioned::new(text, quote.pos))
 }
 
-/// Reads a description, where one is in hand.
+/// Reads a description, if the lookahead is one.
 ///
 /// `Description?` (GraphQL October 2021, section 3.2)
 #[tactic(auto, unfolding(graphql_reading::specs::reading::Outcome::opt_at))]

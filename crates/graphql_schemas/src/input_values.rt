@@ -20,7 +20,7 @@ use graphql_reading::production::{Production, maybe_bracketed};
 use graphql_trees::InputValueDefinition;
 use graphql_syntax::pos::Positioned;
 
-/// Whether a member with a name is in hand: its description, or its name.
+/// Whether the lookahead is a member with a name: its description, or its name.
 #[inline(always)]
 pub fn is_at_member(parser: &Parser) -> bool
     ensures { result ≡ member_first parser.now.hand.bare }
@@ -70,7 +70,7 @@ impl Production for InputValuePhrase {
     }
 }
 
-/// Reads the definitions of arguments with their brackets, where a `(` is in hand; else there are none.
+/// Reads the definitions of arguments with their brackets, if the lookahead is a `(`; else there are none.
 ///
 /// `ArgumentsDefinition? : ('(' InputValueDefinition+ ')')?` (GraphQL October 2021, section 3.6.1)
 // Most fields have none: so the bracket is tested before the call.

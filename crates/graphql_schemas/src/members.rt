@@ -26,7 +26,7 @@ use graphql_syntax::lexer::Token;
 use graphql_syntax::pos::Positioned;
 use graphql_syntax::value::Name;
 
-/// Reads the interfaces that a type implements, where `implements` is in hand; else there are none.
+/// Reads the interfaces that a type implements, if the lookahead is `implements`; else there are none.
 ///
 /// `ImplementsInterfaces? : ('implements' '&'? Name ('&' Name)*)?` (GraphQL October 2021, section 3.6)
 #[tactic(auto, unfolding(graphql_reading::specs::reading::Outcome::opt_at))]
@@ -42,7 +42,7 @@ pub fn read_maybe_implements(parser: &mut Parser, limits: Limits) -> Reading<Vec
     Ok(names)
 }
 
-/// Reads the types of a union, where a `=` is in hand; else there are none.
+/// Reads the types of a union, if the lookahead is a `=`; else there are none.
 ///
 /// `UnionMemberTypes? : ('=' '|'? Name ('|' Name)*)?` (GraphQL October 2021, section 3.8)
 #[tactic(auto, unfolding(graphql_reading::specs::reading::Outcome::opt_at))]
@@ -58,7 +58,7 @@ pub fn read_maybe_members(parser: &mut Parser, limits: Limits) -> Reading<Vec<Po
     Ok(names)
 }
 
-/// Whether a name is in hand that an enum's value may have.
+/// Whether the lookahead is a name that an enum's value may have.
 pub fn is_at_enum_name(parser: &Parser) -> bool
     ensures { result ≡ enum_name parser.now.hand.bare }
 {

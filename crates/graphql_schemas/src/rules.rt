@@ -53,7 +53,7 @@ impl Roots {
         }
     }
 
-    /// Adds a root, or tells that its kind was there already.
+    /// Adds a root, or reports that its kind was there already.
     fn add(&mut self, root: Root, schema: Pos) -> Result<()>
         ensures { (before : List SpecRoot) → Holds before self.old →
             IsAdded before (root_tree root) schema result self.new }

@@ -62,7 +62,7 @@ pub(crate) struct Body<'a> {
     kind: TypeKind,
 }
 
-/// The kind of type whose keyword is in hand, if one is.
+/// The kind of type whose keyword is the lookahead, if it is one.
 pub(crate) fn word_in_hand(parser: &Parser) -> Option<Word>
     ensures { result ≡ word_of parser.now.hand.bare }
 {
@@ -96,7 +96,7 @@ pub fn read_word<'a>(parser: &mut Parser<'a>) -> Reading<(Token<'a>, Word)>
     Ok((parser.take(), word))
 }
 
-/// An extension has at least one of the optional parts: this tells whether the token in hand begins one.
+/// An extension has at least one of the optional parts: this returns whether the lookahead begins one.
 #[inline(always)]
 pub fn expect_part(extend: bool, is_there: bool) -> Reading<()>
     ensures { MatchResult result

@@ -178,7 +178,7 @@ impl<T: Hash> Hash for Positioned<T> {
 /// Finds the places of byte offsets of one text, in one pass over it.
 ///
 /// The offsets must not fall. Each step goes on where the last one stopped, so no character is passed
-/// twice; `stepped` tells how many were passed. It takes no memory. (This project's choice; how lines
+/// twice; `stepped` says how many were passed. It takes no memory. (This project's choice; how lines
 /// and columns are counted stands at `Pos`.)
 ///
 /// The contracts speak of this one walk. That a step doesn't go over the text a second time beside it is

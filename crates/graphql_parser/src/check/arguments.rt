@@ -65,7 +65,7 @@ fn check_maybe_arguments_of<const VARIABLES: bool>(
     check_arguments::<VARIABLES>(parser, limits)
 }
 
-/// Reads arguments with their brackets, where a `(` is in hand; else there are none. Values may have variables.
+/// Reads arguments with their brackets, if the lookahead is a `(`; else there are none. Values may have variables.
 ///
 /// `Arguments?`
 #[inline(always)]
@@ -99,7 +99,7 @@ impl<const VARIABLES: bool> Phrase for DirectivePhrase<VARIABLES> {
     }
 }
 
-/// Reads directives, as long as an `@` is in hand.
+/// Reads directives, as long as the lookahead is an `@`.
 ///
 /// `Directives? : Directive*` (GraphQL October 2021, section 2.12)
 #[inline(always)]
@@ -118,7 +118,7 @@ pub fn check_const_directives(parser: &mut Parser, limits: Limits) -> Reading<()
     check_any_number::<DirectivePhrase<false>>(parser, limits)
 }
 
-/// Reads a default value after its `=`, where a `=` is in hand.
+/// Reads a default value after its `=`, if the lookahead is a `=`.
 ///
 /// `DefaultValue? : ('=' Value[Const])?` (GraphQL October 2021, section 2.10)
 #[tactic(auto, unfolding(graphql_reading::specs::reading::Outcome::opt_at))]

@@ -23,7 +23,7 @@ pub trait Phrase {
     // How a phrase is read from a list of tokens, within limits.
     ghost reader: { Budgets → Reader Self.Tree };
 
-    /// Whether the token in hand begins a phrase.
+    /// Whether the lookahead begins a phrase.
     fn is_next(parser: &Parser) -> bool
         ensures { result ≡ Self.first parser.now.hand.bare };
 
@@ -33,7 +33,7 @@ pub trait Phrase {
         ensures calm { Calm parser.old parser.new };
 }
 
-/// Reads one phrase or more: another as long as the token in hand begins one.
+/// Reads one phrase or more: another as long as the lookahead begins one.
 #[inline(always)]
 pub fn check_one_or_more<P: Phrase>(parser: &mut Parser, limits: Limits) -> Reading<()>
     requires { Takes (P.reader limits) }
@@ -48,7 +48,7 @@ pub fn check_one_or_more<P: Phrase>(parser: &mut Parser, limits: Limits) -> Read
     }
 }
 
-/// Reads any number of phrases: another as long as the token in hand begins one.
+/// Reads any number of phrases: another as long as the lookahead begins one.
 #[inline(always)]
 pub fn check_any_number<P: Phrase>(parser: &mut Parser, limits: Limits) -> Reading<()>
     requires { Takes (P.reader limits) }
@@ -61,7 +61,7 @@ pub fn check_any_number<P: Phrase>(parser: &mut Parser, limits: Limits) -> Readi
     check_one_or_more::<P>(parser, limits)
 }
 
-/// Reads one phrase or more with their brackets, where the first bracket is in hand; else none.
+/// Reads one phrase or more with their brackets, if the lookahead is the first bracket; else none.
 #[tactic(auto, unfolding(graphql_reading::specs::reading::Outcome::opt_at))]
 #[inline(always)]
 pub fn check_maybe_bracketed<P: Phrase>(

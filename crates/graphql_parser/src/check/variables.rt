@@ -51,7 +51,7 @@ impl Phrase for VariablePhrase {
     }
 }
 
-/// Reads variable definitions with their brackets, where a `(` is in hand; else there are none.
+/// Reads variable definitions with their brackets, if the lookahead is a `(`; else there are none.
 ///
 /// `VariableDefinitions? : ('(' VariableDefinition+ ')')?` (GraphQL October 2021, section 2.10)
 pub fn check_maybe_variable_definitions(parser: &mut Parser, limits: Limits) -> Reading<()>

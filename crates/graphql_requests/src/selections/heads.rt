@@ -27,7 +27,7 @@ type Names = (Option<Positioned<Name>>, Positioned<Name>);
 
 type Selections = Vec<Positioned<Selection>>;
 
-/// Whether the name of a fragment is in hand: any name but `on`.
+/// Whether the lookahead is the name of a fragment: any name but `on`.
 #[inline(always)]
 pub fn is_at_fragment_name(parser: &Parser) -> bool
     ensures { result ≡ fragment_name parser.now.hand.bare }
@@ -35,7 +35,7 @@ pub fn is_at_fragment_name(parser: &Parser) -> bool
     parser.is_at_name() && !parser.is_at_keyword("on")
 }
 
-/// Whether an inline fragment may go on with the token in hand, after its `...`: `on`, `@` or `{`.
+/// Whether an inline fragment may go on with the lookahead, after its `...`: `on`, `@` or `{`.
 #[inline(always)]
 pub fn is_at_inline(parser: &Parser) -> bool
     ensures { result ≡ inline_first parser.now.hand.bare }
@@ -43,7 +43,7 @@ pub fn is_at_inline(parser: &Parser) -> bool
     parser.is_at_keyword("on") || parser.is_at_punct("@") || parser.is_at_punct("{")
 }
 
-/// Whether a selection is in hand: a name or `...`.
+/// Whether the lookahead is a selection: a name or `...`.
 #[inline(always)]
 pub fn is_at_selection(parser: &Parser) -> bool
     ensures { result ≡ selection_first parser.now.hand.bare }
@@ -106,7 +106,7 @@ fn read_field(
     Ok(place)
 }
 
-/// A spread, after its `...`, where the name of a fragment is in hand. It has no set.
+/// A spread, after its `...`, if the lookahead is the name of a fragment. It has no set.
 ///
 /// `FragmentSpread : '...' FragmentName Directives?` (GraphQL October 2021, section 2.8)
 fn read_spread(

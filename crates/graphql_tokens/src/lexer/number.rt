@@ -12,7 +12,7 @@ use super::reading::{pass_char, pass_class, peek};
 use crate::pos::running::RunningPlace;
 use crate::text::runs::Digits;
 
-// Passes `Digit+`, and tells whether there was one.
+// Passes `Digit+`, and returns whether there was one.
 #[inline(always)]
 fn pass_some_digits(bytes: &[u8], places: &mut RunningPlace) -> bool
     requires { RunsOver bytes.now places.old }
@@ -42,7 +42,7 @@ fn pass_sign(bytes: &[u8], places: &mut RunningPlace)
     }
 }
 
-// Passes the digits of an `IntegerPart`, `'0' | NonZeroDigit Digit*`, and tells whether they were there.
+// Passes the digits of an `IntegerPart`, `'0' | NonZeroDigit Digit*`, and returns whether they were there.
 #[inline(always)]
 fn pass_whole(bytes: &[u8], places: &mut RunningPlace) -> bool
     requires { RunsOver bytes.now places.old }
@@ -51,7 +51,7 @@ fn pass_whole(bytes: &[u8], places: &mut RunningPlace) -> bool
     pass_char(bytes, places, b'0') || pass_some_digits(bytes, places)
 }
 
-// Passes `FractionalPart?`, where `FractionalPart : '.' Digit+`, and tells whether its digits were there.
+// Passes `FractionalPart?`, where `FractionalPart : '.' Digit+`, and returns whether its digits were there.
 #[inline(always)]
 fn pass_fraction(bytes: &[u8], places: &mut RunningPlace) -> bool
     requires { RunsOver bytes.now places.old }
@@ -60,7 +60,7 @@ fn pass_fraction(bytes: &[u8], places: &mut RunningPlace) -> bool
     !pass_char(bytes, places, b'.') || pass_some_digits(bytes, places)
 }
 
-// Passes `ExponentPart?`, where `ExponentPart : ('e' | 'E') Sign? Digit+`, and tells whether its digits were there.
+// Passes `ExponentPart?`, where `ExponentPart : ('e' | 'E') Sign? Digit+`, and returns whether its digits were there.
 #[inline(always)]
 fn pass_exponent(bytes: &[u8], places: &mut RunningPlace) -> bool
     requires { RunsOver bytes.now places.old }
@@ -88,7 +88,7 @@ fn may_end(bytes: &[u8], places: &RunningPlace) -> bool
 }
 
 // Passes an `IntValue` or a `FloatValue`, `'-'? ('0' | NonZeroDigit Digit*) FractionalPart? ExponentPart?` (GraphQL
-// October 2021, sections 2.9.1 and 2.9.2), and tells whether it was there and may end where it does.
+// October 2021, sections 2.9.1 and 2.9.2), and returns whether it was there and may end where it does.
 #[inline(always)]
 fn pass_numeral(bytes: &[u8], places: &mut RunningPlace) -> bool
     requires { RunsOver bytes.now places.old }

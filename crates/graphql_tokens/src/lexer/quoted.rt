@@ -24,7 +24,7 @@ fn pass_plain_ascii(bytes: &[u8], places: &mut RunningPlace)
     pass_class::<PlainAscii>(bytes, places);
 }
 
-// Passes the content of a string and its closing quote, and tells whether both were there. No line end stands in it.
+// Passes the content of a string and its closing quote, and returns whether both were there. No line end stands in it.
 #[inline(always)]
 pub fn pass_string(bytes: &[u8], places: &mut RunningPlace) -> bool
     requires { RunsOver bytes.now places.old }
@@ -49,7 +49,7 @@ pub fn pass_string(bytes: &[u8], places: &mut RunningPlace) -> bool
     false
 }
 
-// Passes up to three quotes, and tells how many there were.
+// Passes up to three quotes, and returns how many there were.
 #[inline(always)]
 fn pass_quotes(bytes: &[u8], places: &mut RunningPlace) -> usize
     requires { RunsOver bytes.now places.old }
@@ -69,7 +69,7 @@ fn pass_quotes(bytes: &[u8], places: &mut RunningPlace) -> usize
     3
 }
 
-// Passes the raw text of a block string and its closing quotes, and tells whether both were there. Quotes after a
+// Passes the raw text of a block string and its closing quotes, and returns whether both were there. Quotes after a
 // backslash are text, whether they are three, as in `\"""`, or fewer.
 #[inline(always)]
 pub fn pass_block(bytes: &[u8], places: &mut RunningPlace) -> bool

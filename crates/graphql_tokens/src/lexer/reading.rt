@@ -1,5 +1,5 @@
 //! Parts of tokens, and what stands between tokens. Each function moves the place past its part. One that gives a
-//! `bool` tells whether the part was there.
+//! `bool` says whether the part was there.
 
 ghost use Rattle.std.specs.Prelude.{◌≡◌, ◌≢◌, ◌≤◌, ◌<◌, ◌+◌, true, false, [], MatchOption, drop, length};
 ghost use Rattle.graphql_tokens.specs.inner.ByteClasses.{IsWithinLines, past_class, begins_mark};
@@ -150,7 +150,7 @@ pub fn pass_ignored(bytes: &[u8], places: &mut RunningPlace)
     }
 }
 
-// Goes past this character, an ASCII one that ends no line, where it is next, and tells whether it was.
+// Goes past this character, an ASCII one that ends no line, where it is next, and returns whether it was.
 #[inline(always)]
 pub fn pass_char(bytes: &[u8], places: &mut RunningPlace, c: u8) -> bool
     requires runs { RunsOver bytes.now places.old }

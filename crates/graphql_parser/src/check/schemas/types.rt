@@ -51,7 +51,7 @@ fn check_object_rest(parser: &mut Parser, limits: Limits, extend: bool) -> Readi
     check_field_parts(parser, limits)
 }
 
-/// Whether directives are in hand, or what begins with this punctuator.
+/// Whether the lookahead begins directives, or is this punctuator.
 fn is_at_part(parser: &Parser, opening: &str) -> bool
     ensures { result ≡ part_first (punct_of opening.now) parser.now.hand.bare }
 {

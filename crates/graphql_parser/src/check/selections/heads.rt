@@ -123,7 +123,7 @@ fn check_after_dots(parser: &mut Parser, limits: Limits, nests: bool) -> Reading
     Ok(true)
 }
 
-/// Reads a selection up to its set, and tells whether that follows. Its `{` is then read.
+/// Reads a selection up to its set, and returns whether that follows. Its `{` is then read.
 ///
 /// `Selection : Field | FragmentSpread | InlineFragment` (GraphQL October 2021, section 2.4)
 // In line, with what it calls: two loops call it, and the one of checks runs for each selection of a text.
