@@ -185,7 +185,8 @@ uint32_t graphql_parser_parse_schema(
  *                          writing it takes don't.
  *
  * For a text that needs more the status is GRAPHQL_PARSER_OUT_OF_MEMORY, as if `malloc` failed. By this count no text of n bytes
- * needs more than 1105 * n + 1161 bytes, and no check of a schema file, or of a request of one definition, more than 57. */
+ * and t tokens, its end among them, needs more than 1104 * t + n + 57 bytes, so none more than 1105 * n + 1161; and no check of a
+ * schema file, or of a request of one definition, more than 57. */
 uint32_t graphql_parser_check_query_within(
     const uint8_t *text, size_t length, size_t selections, size_t values, size_t types, size_t memory,
     graphql_parser_places *places);

@@ -13,7 +13,7 @@ use Rattle.graphql_reading.specs.reading.Ahead.{Ahead, tokens}
 use Rattle.graphql_reading.specs.reading.Funds.{Spares, RefusesGiven}
 use Rattle.graphql_reading.specs.reading.Worth.{worth}
 use Rattle.graphql_reading.proofs.Funds.{worth-hand}
-use Rattle.graphql_grammar.specs.answers.Memory.{most_taken, message_bytes}
+use Rattle.graphql_grammar.specs.answers.Memory.{most_taken, most_taken_by, message_bytes}
 
 -- where there is a tree
 pub took-tree : (lent : Memory) (parser read : Ahead) (given done : Memory) (most owes : ℕ) → parser.memory ≡ lent
@@ -54,8 +54,8 @@ bytes_of cs = length (encode_utf8_all cs)
 joined : (xs ys : List ℕ) → bytes_of (xs ++ ys) ≡ bytes_of xs + bytes_of ys
 joined xs ys = ap length (encodes-append xs ys) ∙ length-append (encode_utf8_all xs) (encode_utf8_all ys)
 
--- each token but the last has a byte, and no two spell the same one
-cuts-worth : (edition : Edition) (front text : List ℕ) (ts : List Token) → Cuts edition front text ts → worth ts ≤ 1105 * bytes_of text + 1104
+-- no two tokens spell the same byte, and each but the last spells one
+cuts-worth : (edition : Edition) (front text : List ℕ) (ts : List Token) → Cuts edition front text ts → (worth ts ≤ 1104 * length ts + bytes_of text) × (length ts ≤ bytes_of text + 1)
 unfolding worth
 cuts-worth edition front text [] h = absurd h
 cuts-worth edition front text (t ∷ ts) (ignored, inl (first, rest)) =
@@ -64,17 +64,20 @@ cuts-worth edition front text (t ∷ ts) (ignored, inl (first, rest)) =
     let spelled = ap (λ (u : Token). length u.bare.spelling) first.is in
     let whole = ap bytes_of ignored.whole ∙ joined (concat ignored.pieces) ignored.after in
     let after = ap bytes_of first.whole ∙ joined first.word first.rest in
-    omega (arith, more, some, length-le-encodes first.word, spelled, whole, after)
+    (omega (arith, more.0, spelled, whole, after), omega (arith, more.1, some, length-le-encodes first.word, whole, after))
 cuts-worth edition front text (t ∷ ts) (ignored, inr (inl (ends, none))) =
     let spelled = ap (λ (u : Token). length u.bare.spelling) ends.is in
-    let last = ap worth none in
-    omega (arith, spelled, last)
+    (omega (arith, spelled, ap worth none, ap length none), omega (arith, ap length none))
 cuts-worth edition front text (t ∷ ts) (ignored, inr (inr (fault, none))) =
     let spelled = ap (λ (u : Token). length u.bare.spelling) fault.is in
-    let last = ap worth none in
-    omega (arith, spelled, last)
+    (omega (arith, spelled, ap worth none, ap length none), omega (arith, ap length none))
 
 -- what the tokens of a text pay, and a message
+pub token-bound : (text : List ℕ) (ts : List Token) → IsUtf8 text → IsCutInto text ts → worth ts + message_bytes ≤ most_taken_by (length ts) (length text)
+unfolding most_taken_by
+token-bound text ts u cut = omega (arith, cuts-worth _ [] (chars text) ts cut, ap length (encodes-chars text u))
+
+-- by the bytes alone
 pub text-bound : (text : List ℕ) (ts : List Token) → IsUtf8 text → IsCutInto text ts → worth ts + message_bytes ≤ most_taken (length text)
 unfolding most_taken
 text-bound text ts u cut = omega (arith, cuts-worth _ [] (chars text) ts cut, ap length (encodes-chars text u))

@@ -9,7 +9,7 @@ ghost use Rattle.graphql_parser.specs.Checking.{checked, IsAsParsed, IsAsParsedT
 ghost use Rattle.graphql_parser.specs.RequestHeads.{head_of, in_heads};
 ghost use Rattle.graphql_memory.specs.Refusals.{HeapRefused};
 ghost use Rattle.graphql_grammar.specs.answers.Answers.{TokenFor};
-ghost use Rattle.graphql_grammar.specs.answers.Memory.{most_taken, message_bytes};
+ghost use Rattle.graphql_grammar.specs.answers.Memory.{most_taken, most_taken_by, message_bytes};
 ghost use Rattle.graphql_reading.specs.reading.Worth.{worth};
 ghost use Rattle.graphql_parser.specs.HeadFunds.{heads_owed};
 ghost use Rattle.graphql_parser.specs.OneDefinition.{FirstStandsAlone};
@@ -113,9 +113,10 @@ pub fn check_query_limited(alloc: Global, text: &str, limits: Limits) -> Result<
     check_query_within(&mut Memory::new(alloc), text, limits)
 }
 
-/// As [`check_query_limited`], with who takes memory, as a budget bounds it. A text of n bytes takes at most
-/// 1,105 n + 1,161 bytes as [`Memory`] counts them, and 57 if only its end is after its first definition. `OutOfMemory` is
-/// returned only if a request to `memory` was denied: the heap denied it, or less than that was left.
+/// As [`check_query_limited`], with who takes memory, as a budget bounds it. A text of n bytes and t tokens, as many as
+/// `Tokens::new(text)` returns, takes at most 1,104 t + n + 57 bytes as [`Memory`] counts them, so at most 1,105 n + 1,161; and
+/// 57 if only its end is after its first definition. `OutOfMemory` is returned only if a request to `memory` was denied: the
+/// heap denied it, or less than that was left.
 pub fn check_query_within(memory: &mut Memory, text: &str, limits: Limits) -> Result<()>
     ensures reads { ReadsText (checked requests) limits text.now result }
     ensures as_parsed { IsAsParsedText requests limits text.now result }
@@ -123,6 +124,11 @@ pub fn check_query_within(memory: &mut Memory, text: &str, limits: Limits) -> Re
     ensures lent { memory.new.left ≤ memory.old.left }
     ensures refused { result ≡ Err OutOfMemory → HeapRefused memory.old memory.new
         ⊎ (memory.old.left < most_taken (length text.now)) }
+    // The same by its tokens, the end among them.
+    ensures by_tokens { (ts : List SpecToken) → IsCutInto text.now ts →
+        (memory.old.left ≤ memory.new.left + most_taken_by (length ts) (length text.now)) ×
+        (result ≡ Err OutOfMemory → HeapRefused memory.old memory.new
+        ⊎ (memory.old.left < most_taken_by (length ts) (length text.now))) }
     // One definition takes memory for a message alone.
     ensures alone { (ts : List SpecToken) → IsCutInto text.now ts → FirstStandsAlone limits ts →
         (memory.old.left ≤ memory.new.left + message_bytes) ×
@@ -145,6 +151,11 @@ pub fn check_query_to<'a>(
     ensures lent { memory.new.left ≤ memory.old.left }
     ensures refused { result.0 ≡ Err OutOfMemory → HeapRefused memory.old memory.new
         ⊎ (memory.old.left < most_taken (length text.entry.now)) }
+    // The same by its tokens, the end among them.
+    ensures by_tokens { (ts : List SpecToken) → IsCutInto text.entry.now ts →
+        (memory.old.left ≤ memory.new.left + most_taken_by (length ts) (length text.entry.now)) ×
+        (result.0 ≡ Err OutOfMemory → HeapRefused memory.old memory.new
+        ⊎ (memory.old.left < most_taken_by (length ts) (length text.entry.now))) }
     // One definition takes memory for a message alone.
     ensures alone { (ts : List SpecToken) → IsCutInto text.entry.now ts → FirstStandsAlone limits ts →
         (memory.old.left ≤ memory.new.left + message_bytes) ×

@@ -8,10 +8,10 @@
 //! places of each `Error` are written definitions too. `check_query`, `check_schema` and
 //! their forms answer as the parses do, and make no tree.
 //!
-//! Proved of their `_within` forms also: by the count of the caller's [`Memory`] a text of n bytes takes at most
-//! 1,105 n + 1,161 bytes, and `OutOfMemory` is returned only if by that count a request was denied, by the heap or because less
-//! than that was left. That nothing is allocated beside the `Memory`, and that it denies only if the heap or the budget does,
-//! is kept by the shape of the code, and tested.
+//! Proved of their `_within` forms also: by the count of the caller's [`Memory`] a text of n bytes and t tokens takes at most
+//! 1,104 t + n + 57 bytes, so at most 1,105 n + 1,161, and `OutOfMemory` is returned only if by that count a request was denied,
+//! by the heap or because less than that was left. That nothing is allocated beside the `Memory`, and that it denies only if the
+//! heap or the budget does, is kept by the shape of the code, and tested.
 //!
 //! A user names this crate alone: the checks stand in the module `check`, and all else is given out from the crates
 //! below. What a reader of the contracts has to believe is given out by `specs/Lib.antt`.

@@ -11,10 +11,11 @@
 //! inner.
 #![tactic(auto)]
 
-ghost use Rattle.std.specs.Prelude.{◌≡◌, ◌≢◌, ◌≤◌, ◌<◌, ◌⊎◌, ◌+◌, [], Err, IfOk, length};
+ghost use Rattle.std.specs.Prelude.{◌≡◌, ◌≢◌, ◌≤◌, ◌<◌, ◌⊎◌, ◌+◌, List, [], Err, IfOk, length};
 ghost use Rattle.graphql_memory.specs.Refusals.{HeapRefused};
-ghost use Rattle.graphql_tokens.specs.tokens.Token.{left};
-ghost use Rattle.graphql_grammar.specs.answers.Memory.{most_taken};
+ghost use Rattle.graphql_tokens.specs.tokens.Cuts.{IsCutInto};
+ghost use Rattle.graphql_tokens.specs.tokens.Token.{Token as SpecToken, left};
+ghost use Rattle.graphql_grammar.specs.answers.Memory.{most_taken, most_taken_by};
 ghost use Rattle.graphql_grammar.specs.answers.Reads.{ReadsText, ReadsTokens};
 ghost use Rattle.graphql_grammar.specs.declared.error.Error.TheVariants.{OutOfMemory};
 ghost use Rattle.graphql_reading.specs.grammar.Limits.{default_limits};
@@ -68,8 +69,9 @@ pub fn parse_query_limited(alloc: Global, text: &str, limits: Limits) -> Result<
 }
 
 /// As [`parse_query_limited`], with who takes memory, as a budget bounds it (this project's own call). A text of n bytes
-/// takes at most 1,105 n + 1,161 bytes as [`Memory`] counts them. `OutOfMemory` is returned only if a request to `memory` was
-/// denied: the heap denied it, or less than that was left.
+/// and t tokens, as many as `Tokens::new(text)` returns, takes at most 1,104 t + n + 57 bytes as [`Memory`] counts them, so at
+/// most 1,105 n + 1,161. `OutOfMemory` is returned only if a request to `memory` was denied: the heap denied it, or less than
+/// that was left.
 pub fn parse_query_within(
     memory: &mut Memory,
     text: &str,
@@ -81,6 +83,11 @@ pub fn parse_query_within(
     ensures lent { memory.new.left ≤ memory.old.left }
     ensures refused { result ≡ Err OutOfMemory → HeapRefused memory.old memory.new
         ⊎ (memory.old.left < most_taken (length text.now)) }
+    // The same by its tokens, the end among them.
+    ensures by_tokens { (ts : List SpecToken) → IsCutInto text.now ts →
+        (memory.old.left ≤ memory.new.left + most_taken_by (length ts) (length text.now)) ×
+        (result ≡ Err OutOfMemory → HeapRefused memory.old memory.new
+        ⊎ (memory.old.left < most_taken_by (length ts) (length text.now))) }
 {
     let mut tokens = Tokens::new(text);
     read_document::<KeptDefinitions>(memory, &mut tokens, limits, &mut None)

@@ -16,9 +16,10 @@ ghost use Rattle.graphql_memory.specs.Memory.{bytes};
 ghost use Rattle.graphql_memory.specs.Refusals.{HeapRefused};
 ghost use Rattle.graphql_schemas.specs.reading.Funds.{definition_row};
 ghost use Rattle.graphql_reading.specs.reading.Worth.{worth};
-ghost use Rattle.graphql_tokens.specs.tokens.Token.{left};
+ghost use Rattle.graphql_tokens.specs.tokens.Cuts.{IsCutInto};
+ghost use Rattle.graphql_tokens.specs.tokens.Token.{Token as SpecToken, left};
 ghost use Rattle.graphql_trees.specs.trees.SchemaViews.{schema_document_tree};
-ghost use Rattle.graphql_grammar.specs.answers.Memory.{most_taken};
+ghost use Rattle.graphql_grammar.specs.answers.Memory.{most_taken, most_taken_by};
 ghost use Rattle.graphql_grammar.specs.answers.Reads.{ReadsText, ReadsTokens};
 ghost use Rattle.graphql_grammar.specs.declared.error.Error.TheVariants.{OutOfMemory};
 ghost use Rattle.graphql_reading.specs.grammar.Limits.{default_limits};
@@ -121,8 +122,9 @@ pub fn parse_schema_limited(alloc: Global, text: &str, limits: Limits) -> Result
 }
 
 /// As [`parse_schema_limited`], with who takes memory, as a budget bounds it (this project's own call). A text of n bytes
-/// takes at most 1,105 n + 1,161 bytes as [`Memory`] counts them. `OutOfMemory` is returned only if a request to `memory` was
-/// denied: the heap denied it, or less than that was left.
+/// and t tokens, as many as `Tokens::new(text)` returns, takes at most 1,104 t + n + 57 bytes as [`Memory`] counts them, so at
+/// most 1,105 n + 1,161. `OutOfMemory` is returned only if a request to `memory` was denied: the heap denied it, or less than
+/// that was left.
 pub fn parse_schema_within(
     memory: &mut Memory,
     text: &str,
@@ -135,6 +137,11 @@ pub fn parse_schema_within(
     ensures lent { memory.new.left ≤ memory.old.left }
     ensures refused { result ≡ Err OutOfMemory → HeapRefused memory.old memory.new
         ⊎ (memory.old.left < most_taken (length text.now)) }
+    // The same by its tokens, the end among them.
+    ensures by_tokens { (ts : List SpecToken) → IsCutInto text.now ts →
+        (memory.old.left ≤ memory.new.left + most_taken_by (length ts) (length text.now)) ×
+        (result ≡ Err OutOfMemory → HeapRefused memory.old memory.new
+        ⊎ (memory.old.left < most_taken_by (length ts) (length text.now))) }
 {
     let mut tokens = Tokens::new(text);
     read_document::<KeptDefinitions>(memory, &mut tokens, limits, &mut None)

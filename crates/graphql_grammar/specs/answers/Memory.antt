@@ -5,7 +5,11 @@ use Rattle.std.specs.Prelude.{ℕ, ◌+◌, ◌*◌}
 abbrev pub message_bytes : ℕ
 message_bytes = 57
 
--- the bytes that a text of so many bytes takes at most: those of what its tokens make, each of which has a byte at least, and
--- those of a message
+-- the bytes that so many tokens take at most, in a text of so many bytes: those of what they make, and those of a message. The last
+-- token, of which nothing is made, counts as one too
+unfoldable pub most_taken_by : ℕ → ℕ → ℕ
+most_taken_by tokens n = 1104 * tokens + n + message_bytes
+
+-- the same, for any text of so many bytes: each token but the last has a byte at least
 unfoldable pub most_taken : ℕ → ℕ
 most_taken n = 1105 * n + 1161

@@ -1,6 +1,7 @@
-use Rattle.std.proofs.Common.{rules, refl, arith, inl, inr}
-use Rattle.graphql_grammar.proofs.Bounds.{text-bound}
+use Rattle.std.proofs.Common.{rules, refl, arith, ap, inl, inr}
+use Rattle.graphql_grammar.proofs.Bounds.{text-bound, token-bound}
 use Rattle.graphql_tokens.specs.tokens.Token.{left}
+use Rattle.graphql_reading.specs.reading.Worth.{worth}
 use Rattle.graphql_grammar.proofs.Languages.{reads-text}
 use Rattle.graphql_schemas.specs.grammar.Schemas.{schemas}
 use Rattle.graphql_schemas.specs.reading.SchemaFile.{definitions_at}
@@ -25,3 +26,9 @@ returns-clause-taken c = omega (arith, c.read_document.ensures.taken _ refl, tex
 
 pub returns-clause-refused : goal.returns-clause-refused
 returns-clause-refused c is = elim (c.read_document.ensures.refused _ refl is) [ inl heap ↦ inl heap | inr less ↦ inr (omega (arith, less, text-bound c.args.text.now _ c.utf8.text c.new-tokens.ensures.cut)) ]
+
+pub returns-clause-by_tokens : goal.returns-clause-by_tokens
+returns-clause-by_tokens c ts cut =
+    let paid = token-bound c.args.text.now ts c.utf8.text cut in
+    let same = ap worth (c.new-tokens.ensures.only ts cut) in
+    (omega (arith, c.read_document.ensures.taken _ refl, paid, same), λ is. elim (c.read_document.ensures.refused _ refl is) [ inl heap ↦ inl heap | inr less ↦ inr (omega (arith, less, paid, same)) ])

@@ -1,8 +1,9 @@
-use Rattle.std.proofs.Common.{List, refl, sym, arith, inl, inr, subst}
+use Rattle.std.proofs.Common.{List, refl, sym, arith, ap, inl, inr, subst}
 use Rattle.graphql_grammar.specs.answers.Answers.{TokenFor}
 use Rattle.graphql_parser.specs.OneDefinition.{FirstStandsAlone}
-use Rattle.graphql_grammar.proofs.Bounds.{text-bound}
+use Rattle.graphql_grammar.proofs.Bounds.{text-bound, token-bound}
 use Rattle.graphql_tokens.specs.tokens.Token.{Token, left}
+use Rattle.graphql_reading.specs.reading.Worth.{worth}
 use Rattle.graphql_grammar.proofs.Languages.{reads-text}
 use Rattle.graphql_requests.specs.grammar.Requests.{requests}
 use Rattle.graphql_requests.specs.reading.Request.{definitions_at}
@@ -25,6 +26,12 @@ returns-clause-taken c = omega (arith, c.read_document-answer.ensures.taken _ (i
 
 pub returns-clause-refused : goal.returns-clause-refused
 returns-clause-refused c is = elim (c.read_document-answer.ensures.refused _ (inl refl) is) [ inl heap ↦ inl heap | inr less ↦ inr (omega (arith, less, text-bound c.args.text.now _ c.utf8.text c.new-tokens.ensures.cut)) ]
+
+pub returns-clause-by_tokens : goal.returns-clause-by_tokens
+returns-clause-by_tokens c ts cut =
+    let paid = token-bound c.args.text.now ts c.utf8.text cut in
+    let same = ap worth (c.new-tokens.ensures.only ts cut) in
+    (omega (arith, c.read_document-answer.ensures.taken _ (inl refl), paid, same), λ is. elim (c.read_document-answer.ensures.refused _ (inl refl) is) [ inl heap ↦ inl heap | inr less ↦ inr (omega (arith, less, paid, same)) ])
 
 pub returns-clause-alone : goal.returns-clause-alone
 returns-clause-alone c ts cut alone =
