@@ -46,6 +46,6 @@ pub fn call<D: Document, H: Handing<D>>(
     };
     let mut places = Places::none();
     let mut memory = Memory::with_budget(alloc, bounds.3);
-    let number = answer::<D, H>(&mut memory, &question, handing, &mut places, handed);
+    let number = answer::<D, H>(alloc, &mut memory, &question, handing, &mut places, handed);
     Told::of(number, places, room, lent, memory.left())
 }

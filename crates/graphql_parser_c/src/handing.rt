@@ -102,6 +102,7 @@ fn hand_over<T>(answer: &Result<T>, made: Made, places: &mut Places, block: &mut
 /// Reads a text, tells the answer, and hands over what is made of it; or tells why the text can't be read, and hands over
 /// nothing.
 pub fn answer<D: Document, H: Handing<D>>(
+    alloc: Global,
     memory: &mut Memory,
     question: &Question<'_>,
     handing: &H,
@@ -126,6 +127,6 @@ pub fn answer<D: Document, H: Handing<D>>(
         }
     };
     let answer = H::read(memory, text, limits);
-    let made = made_of::<D, H>(memory.heap(), handing, text, limits, &answer);
+    let made = made_of::<D, H>(alloc, handing, text, limits, &answer);
     hand_over(&answer, made, places, handed).number()
 }
