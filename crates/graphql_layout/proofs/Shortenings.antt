@@ -4,7 +4,7 @@ use Rattle.std.proofs.lemmas.Bool.Decides.{nat_tests}
 use lib.Utf8.{scalar}
 use Rattle.std.specs.Char.{IsScalar}
 use Rattle.std.specs.List.{AllByRecursion}
-use Rattle.std.specs.Str.{chars, all_scalars, IsUtf8}
+use Rattle.std.specs.Str.{chars, all_scalars}
 use Rattle.graphql_tokens.specs.tokens.Alike.{inside, value_of_block, IsAlike, AreAlike}
 use Rattle.graphql_tokens.specs.tokens.Edition.{Current}
 use Rattle.graphql_tokens.specs.tokens.Proper.{Spells, IsProperBare}

@@ -1,4 +1,4 @@
-use Rattle.std.proofs.Common.{◌≡◌, false, true, not, ℕ, length, refl, sym, ap, ◌∙◌}
+use Rattle.std.proofs.Common.{◌≡◌, false, not, ap, ◌∙◌}
 use Rattle.std.specs.Str.{chars}
 use Rattle.graphql_layout.specs.declared.one_reading.Scan.{Scan}
 use Rattle.graphql_layout.specs.inner.Scans.{scan}
