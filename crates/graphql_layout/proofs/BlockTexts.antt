@@ -16,7 +16,7 @@ use Rattle.graphql_tokens.proofs.BlockTokens.{block_is}
 use Rattle.graphql_tokens.proofs.Propers.{text_scalars}
 use Rattle.graphql_layout.specs.texts.Blocks.{ends_in_mark, is_wide, leads, trails, blanks, line_break, placed, body, break_if, content, block_of, spelled, may_be_block, HasValue}
 use Rattle.graphql_layout.specs.texts.Specified.{specified_value, specified_value_of_block, HasSpecifiedValue}
-use Rattle.graphql_layout.specs.texts.Shortened.{has, is_mark, is_open, is_hung, escaped, line_feed_if, shortest}
+use Rattle.graphql_layout.specs.texts.Shortened.{has, is_mark, is_open, is_hung, escaped, line_feed_if, compact}
 use Rattle.graphql_layout.proofs.BlockBodies.{blanks_pass, body_passes}
 use Rattle.graphql_layout.proofs.BlockChoices.{kept_if, if_kept, flat_hung}
 use Rattle.graphql_layout.proofs.BlockLayouts.{or_false}
@@ -72,8 +72,8 @@ no_mark_open zero before other (c ∷ cs) f h = by (closes (c ∷ cs)) (no_mark_
 spelled_closes : (cs : List ℕ) → Closes (trails cs) cs
 spelled_closes cs h = no_mark_open 0 false false cs (λ e. e) (or_false (nat_lt 70 (length cs)) (ends_in_mark false cs) (or_false (has 10 cs) (is_wide cs) h).1).1
 
-shortest_closes : (cs : List ℕ) → Closes (is_open 0 false cs) cs
-shortest_closes cs h = h
+compact_closes : (cs : List ℕ) → Closes (is_open 0 false cs) cs
+compact_closes cs h = h
 
 -- ---- characters
 
@@ -203,16 +203,16 @@ escaped_is (suc k) (c ∷ cs) = ap (λ (l : List ℕ). c ∷ l) (escaped_is k cs
 escaped_is zero (c ∷ cs) =
     ap₂ (λ (x y : List ℕ). cond (closes (c ∷ cs)) (92 ∷ c ∷ x) y) (escaped_is 2 cs) (ap₂ (λ (x y : List ℕ). x ++ y) (placed_flat c) (escaped_is 0 cs))
 
-pub shortest_is : (cs : List ℕ) → shortest cs ≡ block_of (is_hung cs) (is_open 0 false cs) 0 cs
-unfolding shortest block_of
-shortest_is cs =
+pub compact_is : (cs : List ℕ) → compact cs ≡ block_of (is_hung cs) (is_open 0 false cs) 0 cs
+unfolding compact block_of
+compact_is cs =
     ap (λ (l : List ℕ). encode_utf8_all (three ++ ((line_feed_if (is_hung cs) ++ (l ++ line_feed_if (is_open 0 false cs))) ++ three))) (sym (escaped_is 0 cs))
 
-pub shortest_spells : (cs : List ℕ) → AreScalars cs → Spells Block (shortest cs)
-shortest_spells cs u = subst (Spells Block) (sym (shortest_is cs)) (block_spells (is_hung cs) (is_open 0 false cs) 0 cs u (shortest_closes cs))
+pub compact_spells : (cs : List ℕ) → AreScalars cs → Spells Block (compact cs)
+compact_spells cs u = subst (Spells Block) (sym (compact_is cs)) (block_spells (is_hung cs) (is_open 0 false cs) 0 cs u (compact_closes cs))
 
-pub shortest_means : (cs raw : List ℕ) → AreScalars cs → block_value raw ≡ cs → Means (shortest cs) cs
-shortest_means [] raw u h = subst (λ (l : List ℕ). Means l []) (sym (shortest_is [])) (none_means 0)
-shortest_means (c ∷ cs) raw u h =
+pub compact_means : (cs raw : List ℕ) → AreScalars cs → block_value raw ≡ cs → Means (compact cs) cs
+compact_means [] raw u h = subst (λ (l : List ℕ). Means l []) (sym (compact_is [])) (none_means 0)
+compact_means (c ∷ cs) raw u h =
     let k = value_keeps raw (c ∷ cs) (λ e. absurd (cc)) h in
-    subst (λ (l : List ℕ). Means l (c ∷ cs)) (sym (shortest_is (c ∷ cs))) (block_means (is_hung (c ∷ cs)) (is_open 0 false (c ∷ cs)) 0 (c ∷ cs) u k (flat_hung (c ∷ cs) k))
+    subst (λ (l : List ℕ). Means l (c ∷ cs)) (sym (compact_is (c ∷ cs))) (block_means (is_hung (c ∷ cs)) (is_open 0 false (c ∷ cs)) 0 (c ∷ cs) u k (flat_hung (c ∷ cs) k))

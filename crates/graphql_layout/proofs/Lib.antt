@@ -1,4 +1,5 @@
 pub mod Aheads
+pub mod BlankLines
 pub mod BlockBodies
 pub mod BlockChoices
 pub mod BlockFlags

@@ -1,155 +1,136 @@
--- A block string that has one reading as far as the pass over its characters tells: by this parser and by the specification it has
--- the same value.
-use Rattle.std.proofs.Common.{◌≡◌, ℕ, zero, suc, ◌+◌, ◌-◌, ◌≤◌, Bool, true, false, cond, not, eqb, ltb, nat_lt, ◌&&◌, ◌||◌, ◌⊎◌, inl, inr, List, [], ◌∷◌, ◌++◌, map, length, drop, get_or, refl, sym, ap, ap₂, ◌∙◌, subst, append-nil, arith}
+-- A pass over the characters of a block string finds whether it has one reading, and then by this parser and by the specification it
+-- has the same value.
+use Rattle.std.proofs.Common.{◌≡◌, ℕ, zero, suc, ◌+◌, ◌-◌, ◌≤◌, Bool, true, false, cond, not, eqb, ltb, nat_lt, ◌&&◌, ◌||◌, ◌⊎◌, inl, inr, min, List, [], ◌∷◌, map, length, drop, get_or, refl, sym, ap, ap₂, ◌∙◌, subst, arith}
 use Rattle.std.proofs.lemmas.Bool.Decides.{nat_tests}
 use Rattle.std.proofs.lemmas.List.{nil_from_length}
 use Rattle.std.proofs.lemmas.List.Sums.{prefix_len-le-length}
-use Rattle.std.proofs.lemmas.Str.{chars-nil}
-use Rattle.std.specs.List.{AllByRecursion, list_all}
+use Rattle.std.specs.List.{AllByRecursion, list_all, list_any}
 use Rattle.std.specs.Str.{chars, IsUtf8}
 use Rattle.graphql_tokens.specs.tokens.BlockText.{begins_quotes, unquoted, lines_of, onto_line, is_blank_char, is_blank, indent, least, common_indent, dedented, dedent, from_text, to_text, joined, block_value}
 use Rattle.graphql_tokens.specs.tokens.Place.{is_line_end}
 use Rattle.graphql_tokens.proofs.BlockIndents.{indents, indents_blank, indents_text}
 use Rattle.graphql_tokens.proofs.BlockLines.{lines_some}
-use Rattle.graphql_tokens.proofs.BlockValue.{IsDeep, AreDeep, deep, same_all, SameBlank, from_text-map, from_text-all, to_text-map, quotes_at, begins_is, unquoted_yes, unquoted_no}
+use Rattle.graphql_tokens.proofs.BlockValue.{IsDeep, AreDeep, deep, same_all, SameBlank, from_text-map, from_text-all, to_text-map, to_text-all, quotes_at, begins_is, unquoted_yes, unquoted_no}
 use Rattle.graphql_tokens.proofs.Chars.{length-chars}
 use Rattle.graphql_tokens.proofs.EscapeUnits.{both}
 use Rattle.graphql_layout.specs.declared.one_reading.Scan.{Scan}
-use Rattle.graphql_layout.specs.inner.FirstLine.{IsFirstLine}
-use Rattle.graphql_layout.specs.texts.OneReading.{is_short, at_line_end, at_blank, at_text, step, scanned, first_scan, scan, has_one_reading}
+use Rattle.graphql_layout.specs.inner.Scans.{ends_short, at_line_end, at_blank, at_text, step, scanned, first_scan, scan, has_blank_line}
+use Rattle.graphql_layout.specs.texts.OneReading.{is_short, has_short, has_one_reading}
 use Rattle.graphql_layout.specs.texts.Specified.{cut, specified_value}
-use Rattle.graphql_layout.proofs.BlockLayouts.{InLine, or_false}
+use Rattle.graphql_layout.proofs.BlockLayouts.{or_false}
 
--- ---- lines that are empty or as long as the indent
+-- ---- Booleans
 
-abbrev pub IsWhole : ℕ → List ℕ → Type 0
-IsWhole n line = (line ≡ []) ⊎ (n ≤ length line)
+and_none : (b : Bool) → (b && false) ≡ false
+and_none true = refl
+and_none false = refl
 
-abbrev pub AreWhole : ℕ → List (List ℕ) → Type 0
-AreWhole n lines = AllByRecursion (IsWhole n) lines
+or_none : (b : Bool) → (b || false) ≡ b
+or_none true = refl
+or_none false = refl
 
-text_whole : (n : ℕ) (line : List ℕ) → IsDeep n line → is_blank line ≡ false → IsWhole n line
-text_whole n line (inl e) b = absurd (cc)
-text_whole n line (inr h) b = inr (omega (arith, prefix_len-le-length is_blank_char line))
+-- ---- the least indent and short lines, line by line
 
--- ---- what a pass over the lines finds, from within a line on
+-- so many blanks are missing in a line: fewer than the indent
+abbrev misses : ℕ → ℕ → Bool
+misses n left = nat_lt 0 left && nat_lt left n
 
-record Found (n : ℕ) (s : Scan) (line : List ℕ) (lines : List (List ℕ)) : Type 0 where
-  clean : s.is_cut ≡ false
-  blank : s.is_pending ≡ true → list_all is_blank (line ∷ lines) ≡ true
-  here : s.has_text ≡ true → list_all is_blank lines ≡ false → is_blank line ≡ true → (s.left ≤ length line) ⊎ (s.indent ≤ s.left - length line)
-  below : s.has_text ≡ true → AreWhole n (to_text lines)
-  from : s.has_text ≡ false → AreWhole n (to_text (cond (is_blank line) (from_text lines) lines))
+-- the least indent after the line, of which this is left
+abbrev here : Scan → List ℕ → ℕ
+here s line = cond (is_blank line) s.indent (s.indent - (s.left - indent line))
 
--- if the line ended without a pending one, it wasn't short
-not_short : (left most : ℕ) → (nat_lt 0 left && nat_lt left most) ≡ false → (left ≤ 0) ⊎ (most ≤ left - 0)
-not_short left most h = by (nat_lt 0 left) (nat_lt left most) refl refl h
-  where
-    by : (a b : Bool) → nat_lt 0 left ≡ a → nat_lt left most ≡ b → (a && b) ≡ false → (left ≤ 0) ⊎ (most ≤ left - 0)
-    by false b e f g = inl (grind (arith, nat_tests))
-    by true false e f g = inr (let x : most ≤ left = grind (arith, nat_tests) in omega arith)
-    by true true e f g = absurd (cc)
+abbrev under : ℕ → List (List ℕ) → ℕ
+under m [] = m
+under m (line ∷ lines) = under (cond (is_blank line) m (m - (m - indent line))) lines
 
-ended_here : (s : Scan) (lines : List (List ℕ)) → ((s.is_pending || is_short s) ≡ true → list_all is_blank lines ≡ true) → s.has_text ≡ true → list_all is_blank lines ≡ false → (s.left ≤ 0) ⊎ (s.indent ≤ s.left - 0)
-ended_here s lines blank t some = by (nat_lt 0 s.left && nat_lt s.left s.indent) refl
-  where
-    or_true : (a b : Bool) → b ≡ true → (a || b) ≡ true
-    or_true true b e = refl
-    or_true false b e = e
+-- whether a short line stands between two with a text: one was met before, and so was a text after it
+abbrev below : ℕ → Bool → Bool → Bool → List (List ℕ) → Bool
+below n text pending found [] = found
+below n text pending found (line ∷ lines) =
+    cond (is_blank line) (below n text (pending || (text && misses n (n - length line))) found lines) (below n true false (found || pending) lines)
 
-    by : (b : Bool) → (nat_lt 0 s.left && nat_lt s.left s.indent) ≡ b → (s.left ≤ 0) ⊎ (s.indent ≤ s.left - 0)
-    by false e = not_short s.left s.indent e
-    by true e =
-        let short : is_short s ≡ true = ap (λ (x : Bool). x && (nat_lt 0 s.left && nat_lt s.left s.indent)) t ∙ e in
-        let all = blank (or_true s.is_pending (is_short s) short) in
-        absurd (cc)
+abbrev at_line : ℕ → Scan → List ℕ → List (List ℕ) → Bool
+at_line n s line lines =
+    cond (is_blank line) (below n s.has_text (s.is_pending || (s.has_text && misses n (s.left - length line))) s.is_cut lines) (below n true false (s.is_cut || s.is_pending) lines)
 
-pending_then : (s : Scan) → s.is_pending ≡ true → (s.is_pending || is_short s) ≡ true
-pending_then s p = ap (λ (x : Bool). x || is_short s) p
-
--- at a carriage return before a line feed, which ends an empty line
-at_return : (n : ℕ) (s : Scan) (lines : List (List ℕ)) → Found n (at_line_end s) [] lines → Found n s [] lines
-at_return n s lines w = record {
-  clean = w.clean;
-  blank = λ p. w.blank (pending_then s p);
-  here = λ t some b. ended_here s lines w.blank t some;
-  below = w.below;
-  from = w.from;
-}
-
--- the next line, where it isn't the last with a text
-next_whole : (n : ℕ) (s : Scan) (line : List ℕ) (lines : List (List ℕ)) → Found n (at_line_end s) line lines → IsDeep n line → n ≤ s.indent → s.has_text ≡ true → list_all is_blank (line ∷ lines) ≡ false → IsWhole n line
-next_whole n s line lines w d most t some = by (is_blank line) refl some
-  where
-    whole : (line : List ℕ) → (s.indent ≤ length line) ⊎ (s.indent ≤ s.indent - length line) → IsWhole n line
-    whole line (inl h) = inr (omega arith)
-    whole [] (inr h) = inl refl
-    whole (c ∷ cs) (inr h) = inr (omega arith)
-
-    by : (b : Bool) → is_blank line ≡ b → (b && list_all is_blank lines) ≡ false → IsWhole n line
-    by false e f = text_whole n line d e
-    by true e f = whole line (w.here t f e)
-
-at_feed : (n : ℕ) (s : Scan) (line : List ℕ) (lines : List (List ℕ)) → Found n (at_line_end s) line lines → IsDeep n line → n ≤ s.indent → Found n s [] (line ∷ lines)
-at_feed n s line lines w d most = record {
-  clean = w.clean;
-  blank = λ p. w.blank (pending_then s p);
-  here = λ t some b. ended_here s (line ∷ lines) w.blank t some;
-  below = λ t. below (list_all is_blank (line ∷ lines)) t refl;
-  from = λ t. from (is_blank line) refl (w.from t);
-}
-  where
-    below : (b : Bool) → s.has_text ≡ true → list_all is_blank (line ∷ lines) ≡ b → AreWhole n (cond b [] (line ∷ to_text lines))
-    below true t e = tt
-    below false t e = (next_whole n s line lines w d most t e, w.below t)
-
-    from : (b : Bool) → is_blank line ≡ b → AreWhole n (to_text (cond b (from_text lines) lines)) → AreWhole n (to_text (cond b (from_text lines) (line ∷ lines)))
-    from true e h = h
-    from false e h = subst (λ (x : Bool). AreWhole n (cond (x && list_all is_blank lines) [] (line ∷ to_text lines))) (sym e) (text_whole n line d e, h)
-
-at_a_blank : (n : ℕ) (s : Scan) (c : ℕ) (line : List ℕ) (lines : List (List ℕ)) → is_blank_char c ≡ true → Found n (at_blank s) line lines → Found n s (c ∷ line) lines
-at_a_blank n s c line lines e w =
-    let same : is_blank (c ∷ line) ≡ is_blank line = ap (λ (x : Bool). x && is_blank line) e in
-    record {
-      clean = w.clean;
-      blank = λ p. ap (λ (x : Bool). x && list_all is_blank lines) same ∙ w.blank p;
-      here = λ t some b. further (w.here t some (sym same ∙ b));
-      below = w.below;
-      from = λ t. subst (λ (x : Bool). AreWhole n (to_text (cond x (from_text lines) lines))) (sym same) (w.from t);
-    }
-  where
-    further : (s.left - 1 ≤ length line) ⊎ (s.indent ≤ s.left - 1 - length line) → (s.left ≤ suc (length line)) ⊎ (s.indent ≤ s.left - suc (length line))
-    further (inl h) = inl (omega arith)
-    further (inr h) = inr (omega arith)
-
-at_a_text : (n : ℕ) (s : Scan) (c : ℕ) (line : List ℕ) (lines : List (List ℕ)) → is_blank_char c ≡ false → Found n (at_text s) line lines → Found n s (c ∷ line) lines
-at_a_text n s c line lines e w =
-    let clean = or_false s.is_cut s.is_pending w.clean in
-    let text : is_blank (c ∷ line) ≡ false = ap (λ (x : Bool). x && is_blank line) e in
-    record {
-      clean = clean.0;
-      blank = λ p. absurd (cc);
-      here = λ t some b. absurd (cc);
-      below = λ t. w.below refl;
-      from = λ t. subst (λ (x : Bool). AreWhole n (to_text (cond x (from_text lines) lines))) (sym text) (w.below refl);
-    }
-
--- ---- by characters
+-- no more of the indent is missing than the line has, if it has a text
+abbrev Fits : Scan → List ℕ → Type 0
+Fits s line = is_blank line ≡ false → s.left ≤ indent line
 
 record Scanned (n : ℕ) (s after : Scan) (line : List ℕ) (lines : List (List ℕ)) : Type 0 where
-  most : n ≤ after.indent
-  found : after.is_cut ≡ false → Found n s line lines
+  least : after.indent ≡ under (here s line) lines
+  cut : s.indent ≡ n → Fits s line → AreDeep n lines → after.is_cut ≡ at_line n s line lines
 
--- so much of the indent may be missing in the line, if it has a text
-abbrev Fits : ℕ → Scan → List ℕ → Type 0
-Fits n s line = is_blank line ≡ false → n + s.left ≤ s.indent + indent line
+-- ---- character by character
+
+less_none : (k : ℕ) → k ≡ k - 0
+less_none k = omega arith
+
+at_feed : (n : ℕ) (s after : Scan) (line : List ℕ) (lines : List (List ℕ)) → Scanned n (at_line_end s) after line lines → Scanned n s after [] (line ∷ lines)
+at_feed n s after line lines w = record {
+  least = w.least;
+  cut = λ e f d. w.cut e (fits e d.0) d.1 ∙ ap₂ (λ (m l : ℕ). cond (is_blank line) (below n s.has_text ((s.is_pending || (s.has_text && misses m l)) || (s.has_text && misses n (m - length line))) s.is_cut lines) (below n true false (s.is_cut || (s.is_pending || (s.has_text && misses m l))) lines)) e (less_none s.left);
+}
+  where
+    fits : s.indent ≡ n → IsDeep n line → Fits (at_line_end s) line
+    fits e (inl b) f = absurd (cc)
+    fits e (inr d) f = omega (arith, e)
+
+at_return : (n : ℕ) (s after : Scan) (lines : List (List ℕ)) → Scanned n (at_line_end s) after [] lines → Scanned n s after [] lines
+at_return n s after lines w = record {
+  least = w.least;
+  cut = λ e f d. w.cut e (λ b. absurd (cc)) d ∙ ap (λ (p : Bool). below n s.has_text p s.is_cut lines) (same e);
+}
+  where
+    long : s.indent ≡ n → nat_lt (s.indent - 0) n ≡ false
+    long e = let x : n ≤ s.indent - 0 = omega (arith, e) in grind (arith, nat_tests)
+
+    none : s.indent ≡ n → misses n (s.indent - 0) ≡ false
+    none e = ap (λ (b : Bool). nat_lt 0 (s.indent - 0) && b) (long e) ∙ and_none (nat_lt 0 (s.indent - 0))
+
+    same : s.indent ≡ n → ((s.is_pending || ends_short s) || (s.has_text && misses n (s.indent - 0))) ≡ (s.is_pending || (s.has_text && misses n (s.left - 0)))
+    same e =
+        ap (λ (b : Bool). (s.is_pending || ends_short s) || (s.has_text && b)) (none e) ∙ ap (λ (b : Bool). (s.is_pending || ends_short s) || b) (and_none s.has_text)
+        ∙ or_none (s.is_pending || ends_short s) ∙ ap₂ (λ (m l : ℕ). s.is_pending || (s.has_text && misses m l)) e (less_none s.left)
+
+at_a_blank : (n : ℕ) (s after : Scan) (c : ℕ) (line : List ℕ) (lines : List (List ℕ)) → is_blank_char c ≡ true → Scanned n (at_blank s) after line lines → Scanned n s after (c ∷ line) lines
+at_a_blank n s after c line lines q w = record {
+  least = w.least ∙ ap (λ (k : ℕ). under (cond (is_blank line) s.indent (s.indent - k)) lines) (let x : s.left - 1 - indent line ≡ s.left - (1 + indent line) = omega arith in x)
+      ∙ ap (λ (b : Bool). under (cond (b && is_blank line) s.indent (s.indent - (s.left - cond b (1 + indent line) 0))) lines) (sym q);
+  cut = λ e f d. w.cut e (fits f) d
+      ∙ ap (λ (k : ℕ). cond (is_blank line) (below n s.has_text (s.is_pending || (s.has_text && misses n k)) s.is_cut lines) (below n true false (s.is_cut || s.is_pending) lines)) (let x : s.left - 1 - length line ≡ s.left - suc (length line) = omega arith in x)
+      ∙ ap (λ (b : Bool). cond (b && is_blank line) (below n s.has_text (s.is_pending || (s.has_text && misses n (s.left - suc (length line)))) s.is_cut lines) (below n true false (s.is_cut || s.is_pending) lines)) (sym q);
+}
+  where
+    fits : Fits s (c ∷ line) → Fits (at_blank s) line
+    fits f b =
+        let x : s.left ≤ indent (c ∷ line) = f (ap (λ (x : Bool). x && is_blank line) q ∙ b) in
+        let i : indent (c ∷ line) ≡ 1 + indent line = ap (λ (x : Bool). cond x (1 + indent line) 0) q in
+        omega (arith, i, x)
+
+at_a_text : (n : ℕ) (s after : Scan) (c : ℕ) (line : List ℕ) (lines : List (List ℕ)) → is_blank_char c ≡ false → Scanned n (at_text s) after line lines → Scanned n s after (c ∷ line) lines
+at_a_text n s after c line lines q w = record {
+  least = w.least ∙ ap (λ (m : ℕ). under m lines) (least (is_blank line)) ∙ ap (λ (b : Bool). under (cond (b && is_blank line) s.indent (s.indent - (s.left - cond b (1 + indent line) 0))) lines) (sym q);
+  cut = λ e f d. w.cut (same e f) (λ b. omega arith) d ∙ pending (is_blank line)
+      ∙ ap (λ (b : Bool). cond (b && is_blank line) (below n s.has_text (s.is_pending || (s.has_text && misses n (s.left - suc (length line)))) s.is_cut lines) (below n true false (s.is_cut || s.is_pending) lines)) (sym q);
+}
+  where
+    least : (b : Bool) → cond b (s.indent - s.left) (s.indent - s.left - (0 - indent line)) ≡ s.indent - (s.left - 0)
+    least true = omega arith
+    least false = omega arith
+
+    same : s.indent ≡ n → Fits s (c ∷ line) → s.indent - s.left ≡ n
+    same e f =
+        let x : s.left ≤ indent (c ∷ line) = f (ap (λ (x : Bool). x && is_blank line) q) in
+        let i : indent (c ∷ line) ≡ 0 = ap (λ (x : Bool). cond x (1 + indent line) 0) q in
+        omega (arith, i, x, e)
+
+    pending : (b : Bool) → cond b (below n true (false || (true && misses n (0 - length line))) (s.is_cut || s.is_pending) lines) (below n true false ((s.is_cut || s.is_pending) || false) lines) ≡ below n true false (s.is_cut || s.is_pending) lines
+    pending true = ap (λ (k : ℕ). below n true (misses n k) (s.is_cut || s.is_pending) lines) (let x : 0 - length line ≡ 0 = omega arith in x)
+    pending false = ap (λ (b : Bool). below n true false b lines) (or_none (s.is_cut || s.is_pending))
 
 abbrev Scans : ℕ → List ℕ → Type 0
-Scans n cs = (s : Scan) (line : List ℕ) (lines : List (List ℕ)) → lines_of cs ≡ line ∷ lines → n ≤ s.indent → Fits n s line → AreDeep n lines → Scanned n s (scanned s cs) line lines
-
-first_fits : (n : ℕ) (s : Scan) (line : List ℕ) → IsDeep n line → Fits n (at_line_end s) line
-first_fits n s line (inl b) e = absurd (cc)
-first_fits n s line (inr d) e = omega arith
+Scans n cs = (s : Scan) (line : List ℕ) (lines : List (List ℕ)) → lines_of cs ≡ line ∷ lines → Scanned n s (scanned s cs) line lines
 
 begins_feed : (cs line : List ℕ) (lines : List (List ℕ)) → eqb (get_or cs 0 0) 10 ≡ true → lines_of cs ≡ line ∷ lines → line ≡ []
 begins_feed [] line lines e f = absurd (cc)
@@ -158,74 +139,50 @@ begins_feed (c ∷ cs) line lines e f =
     cc
 
 scans : (n : ℕ) (cs : List ℕ) → Scans n cs
-scans n [] s line lines e most fits d =
+scans n [] s line lines e =
     let no_line : line ≡ [] = cc in
     let none : lines ≡ [] = cc in
-    subst (λ (l : List (List ℕ)). Scanned n s s line l) (sym none) (subst (λ (l : List ℕ). Scanned n s s l []) (sym no_line) record {
-      most = most;
-      found = λ h. record { clean = h; blank = λ p. refl; here = λ t some b. absurd (cc); below = λ t. tt; from = λ t. tt };
-    })
-scans n (c ∷ cs) s line lines e most fits d =
+    subst (λ (l : List (List ℕ)). Scanned n s s line l) (sym none) (subst (λ (l : List ℕ). Scanned n s s l []) (sym no_line) record { least = refl; cut = λ e f d. refl })
+scans n (c ∷ cs) s line lines e =
     let more = lines_some cs in
-    by (eqb c 10) (eqb c 13) (eqb (get_or cs 0 0) 10) (is_blank_char c) refl refl refl e more.0 more.1 more.2 (scans n cs)
+    by (eqb c 10) (eqb c 13) (eqb (get_or cs 0 0) 10) (is_blank_char c) refl refl e more.0 more.1 more.2 (scans n cs)
   where
     feed : (next : List ℕ) (others : List (List ℕ)) → lines_of cs ≡ next ∷ others → Scans n cs → [] ∷ lines_of cs ≡ line ∷ lines → Scanned n s (scanned (at_line_end s) cs) line lines
     feed next others is more e =
         let no_line : line ≡ [] = cc in
         let all : lines ≡ next ∷ others = cc in
-        let deeper : AreDeep n (next ∷ others) = subst (AreDeep n) all d in
-        let r = more (at_line_end s) next others is most (first_fits n s next deeper.0) deeper.1 in
-        subst (λ (l : List (List ℕ)). Scanned n s (scanned (at_line_end s) cs) line l) (sym all) (subst (λ (l : List ℕ). Scanned n s (scanned (at_line_end s) cs) l (next ∷ others)) (sym no_line) record {
-          most = r.most;
-          found = λ h. at_feed n s next others (r.found h) deeper.0 most;
-        })
+        subst (λ (l : List (List ℕ)). Scanned n s (scanned (at_line_end s) cs) line l) (sym all) (subst (λ (l : List ℕ). Scanned n s (scanned (at_line_end s) cs) l (next ∷ others)) (sym no_line)
+        (at_feed n s (scanned (at_line_end s) cs) next others (more (at_line_end s) next others is)))
 
-    onto : (next : List ℕ) (others : List (List ℕ)) → lines_of cs ≡ next ∷ others → onto_line c (lines_of cs) ≡ line ∷ lines → (line ≡ c ∷ next) × (lines ≡ others)
-    onto next others is e = let whole : (c ∷ next) ∷ others ≡ line ∷ lines = sym (ap (onto_line c) is) ∙ e in (cc, cc)
+    onto : (after : Scan) (next : List ℕ) (others : List (List ℕ)) → lines_of cs ≡ next ∷ others → onto_line c (lines_of cs) ≡ line ∷ lines → Scanned n s after (c ∷ next) others → Scanned n s after line lines
+    onto after next others is e w =
+        let whole : (c ∷ next) ∷ others ≡ line ∷ lines = sym (ap (onto_line c) is) ∙ e in
+        let front : c ∷ next ≡ line = cc in
+        let back : others ≡ lines = cc in
+        subst (λ (l : List (List ℕ)). Scanned n s after line l) back (subst (λ (l : List ℕ). Scanned n s after l others) front w)
 
-    by : (a b g f : Bool) → eqb (get_or cs 0 0) 10 ≡ g → is_blank_char c ≡ f → eqb c 10 ≡ a
+    by : (a b g f : Bool) → eqb (get_or cs 0 0) 10 ≡ g → is_blank_char c ≡ f
         → cond a ([] ∷ lines_of cs) (cond b (cond g (lines_of cs) ([] ∷ lines_of cs)) (onto_line c (lines_of cs))) ≡ line ∷ lines
         → (next : List ℕ) (others : List (List ℕ)) → lines_of cs ≡ next ∷ others → Scans n cs
         → Scanned n s (scanned (cond (a || b) (at_line_end s) (cond f (at_blank s) (at_text s))) cs) line lines
-    by true b g f p q x e next others is more = feed next others is more e
-    by false true false f p q x e next others is more = feed next others is more e
-    by false true true f p q x e next others is more =
+    by true b g f p q e next others is more = feed next others is more e
+    by false true false f p q e next others is more = feed next others is more e
+    by false true true f p q e next others is more =
         let no_line : line ≡ [] = begins_feed cs line lines p e in
-        let r = more (at_line_end s) line lines e most (λ text. absurd (cc)) d in
-        subst (λ (l : List ℕ). Scanned n s (scanned (at_line_end s) cs) l lines) (sym no_line) record {
-          most = r.most;
-          found = λ h. at_return n s lines (subst (λ (l : List ℕ). Found n (at_line_end s) l lines) no_line (r.found h));
-        }
-    by false false g true p q x e next others is more =
-        let o = onto next others is e in
-        let r = more (at_blank s) next others is most (λ text. inner (fits (ap is_blank o.0 ∙ ap (λ (x : Bool). x && is_blank next) q ∙ text)) (ap indent o.0 ∙ ap (λ (x : Bool). cond x (1 + indent next) 0) q)) (subst (AreDeep n) o.1 d) in
-        subst (λ (l : List (List ℕ)). Scanned n s (scanned (at_blank s) cs) line l) (sym o.1) (subst (λ (l : List ℕ). Scanned n s (scanned (at_blank s) cs) l others) (sym o.0) record {
-          most = r.most;
-          found = λ h. at_a_blank n s c next others q (r.found h);
-        })
-      where
-        inner : n + s.left ≤ s.indent + indent line → indent line ≡ 1 + indent next → n + (s.left - 1) ≤ s.indent + indent next
-        inner h i = omega arith
-    by false false g false p q x e next others is more =
-        let o = onto next others is e in
-        let text : is_blank line ≡ false = ap is_blank o.0 ∙ ap (λ (x : Bool). x && is_blank next) q in
-        let none : indent line ≡ 0 = ap indent o.0 ∙ ap (λ (x : Bool). cond x (1 + indent next) 0) q in
-        let fit : n + s.left ≤ s.indent + indent line = fits text in
-        let rest : n ≤ s.indent - s.left = omega arith in
-        let r = more (at_text s) next others is rest (λ _. omega arith) (subst (AreDeep n) o.1 d) in
-        subst (λ (l : List (List ℕ)). Scanned n s (scanned (at_text s) cs) line l) (sym o.1) (subst (λ (l : List ℕ). Scanned n s (scanned (at_text s) cs) l others) (sym o.0) record {
-          most = r.most;
-          found = λ h. at_a_text n s c next others q (r.found h);
-        })
+        let after = scanned (at_line_end s) cs in
+        let w : Scanned n (at_line_end s) after [] lines = subst (λ (l : List ℕ). Scanned n (at_line_end s) after l lines) no_line (more (at_line_end s) line lines e) in
+        subst (λ (l : List ℕ). Scanned n s after l lines) (sym no_line) (at_return n s after lines w)
+    by false false g true p q e next others is more =
+        let after = scanned (at_blank s) cs in
+        onto after next others is e (at_a_blank n s after c next others q (more (at_blank s) next others is))
+    by false false g false p q e next others is more =
+        let after = scanned (at_text s) cs in
+        onto after next others is e (at_a_text n s after c next others q (more (at_text s) next others is))
 
 -- ---- backslashes before quotes make no difference
 
 abbrev text_scan : ℕ → Bool → Scan
 text_scan most b = record { indent = most; left = 0; has_text = true; is_pending = false; is_cut = b }
-
-or_none : (b : Bool) → (b || false) ≡ b
-or_none true = refl
-or_none false = refl
 
 text_twice : (s : Scan) → at_text (at_text s) ≡ at_text s
 text_twice s = ap₂ text_scan (let n : s.indent - s.left - 0 ≡ s.indent - s.left = omega arith in n) (or_none (s.is_cut || s.is_pending))
@@ -307,6 +264,239 @@ common_fits raw first others u e =
     let within = least_fits (length (unquoted cs)) (indents others) (indents_fit (length (unquoted cs)) others all.1) in
     omega (arith, within, unquoted_fits cs, length-chars raw u)
 
+-- ---- the least indent is the common one
+
+abbrev mins : ℕ → List ℕ → ℕ
+mins m [] = m
+mins m (n ∷ ns) = mins (m - (m - n)) ns
+
+under_mins : (m : ℕ) (lines : List (List ℕ)) → under m lines ≡ mins m (indents lines)
+under_mins m [] = refl
+under_mins m (line ∷ lines) = by (is_blank line) refl (λ (k : ℕ). under_mins k lines)
+  where
+    by : (b : Bool) → is_blank line ≡ b → ((k : ℕ) → under k lines ≡ mins k (indents lines)) → under (cond b m (m - (m - indent line))) lines ≡ mins m (indents (line ∷ lines))
+    by true e r = r m ∙ ap (mins m) (sym (indents_blank line lines e))
+    by false e r = r (m - (m - indent line)) ∙ ap (mins m) (sym (indents_text line lines e))
+
+mins_least : (m n : ℕ) (ns : List ℕ) → mins m (n ∷ ns) ≡ min m (least (n ∷ ns))
+mins_least m n [] = omega arith
+mins_least m n (k ∷ ks) = omega (arith, mins_least (m - (m - n)) k ks)
+
+all_blank : (lines : List (List ℕ)) → indents lines ≡ [] → list_all is_blank lines ≡ true
+all_blank [] h = refl
+all_blank (line ∷ lines) h = by (is_blank line) refl (all_blank lines)
+  where
+    by : (b : Bool) → is_blank line ≡ b → (indents lines ≡ [] → list_all is_blank lines ≡ true) → (b && list_all is_blank lines) ≡ true
+    by true e r = r (sym (indents_blank line lines e) ∙ h)
+    by false e r = let no = sym (indents_text line lines e) ∙ h in absurd (cc)
+
+least_found : (m : ℕ) (lines : List (List ℕ)) → common_indent lines ≤ m → (under m lines ≡ common_indent lines) ⊎ (list_all is_blank lines ≡ true)
+least_found m lines l = by (indents lines) refl
+  where
+    by : (ns : List ℕ) → indents lines ≡ ns → (under m lines ≡ common_indent lines) ⊎ (list_all is_blank lines ≡ true)
+    by [] e = inr (all_blank lines e)
+    by (n ∷ ns) e = inl (omega (arith, under_mins m lines, ap (mins m) e, mins_least m n ns, ap least e, l))
+
+blank_deep : (n : ℕ) (lines : List (List ℕ)) → list_all is_blank lines ≡ true → AreDeep n lines
+blank_deep n [] h = tt
+blank_deep n (line ∷ lines) h = let b = both (is_blank line) (list_all is_blank lines) h in (inl b.0, blank_deep n lines b.1)
+
+-- ---- short lines among those from the first text to the last
+
+-- as many are missing as it doesn't have
+misses_is : (n k : ℕ) → misses n (n - k) ≡ misses n k
+misses_is n k = by (nat_lt 0 k) (nat_lt k n) refl refl
+  where
+    by : (a b : Bool) → nat_lt 0 k ≡ a → nat_lt k n ≡ b → misses n (n - k) ≡ (a && b)
+    by true true e f =
+        let x : nat_lt 0 (n - k) ≡ true = grind (arith, nat_tests) in
+        let y : nat_lt (n - k) n ≡ true = grind (arith, nat_tests) in
+        ap₂ (λ (a b : Bool). a && b) x y
+    by true false e f =
+        let x : nat_lt 0 (n - k) ≡ false = grind (arith, nat_tests) in
+        ap (λ (a : Bool). a && nat_lt (n - k) n) x
+    by false b e f =
+        let y : nat_lt (n - k) n ≡ false = grind (arith, nat_tests) in
+        ap (λ (b : Bool). nat_lt 0 (n - k) && b) y ∙ and_none (nat_lt 0 (n - k))
+
+none_kept : (lines : List (List ℕ)) → list_all is_blank lines ≡ true → to_text lines ≡ []
+none_kept [] h = refl
+none_kept (line ∷ lines) h = ap (λ (b : Bool). cond b [] (line ∷ to_text lines)) h
+
+abbrev shorts : ℕ → List (List ℕ) → Bool
+shorts n lines = list_any (is_short n) (to_text lines)
+
+kept_any : (P : List ℕ → Bool) (b : Bool) (line : List ℕ) (lines : List (List ℕ)) → cond b false (P line || list_any P lines) ≡ list_any P (cond b [] (line ∷ lines))
+kept_any P true line lines = refl
+kept_any P false line lines = refl
+
+-- after a line that isn't blank
+after_text : (n : ℕ) (pending found : Bool) (lines : List (List ℕ)) → below n true pending found lines ≡ (found || ((not (list_all is_blank lines) && pending) || shorts n lines))
+after_text n pending found [] = sym (or_none found)
+after_text n pending found (line ∷ lines) =
+    by (is_blank line) (list_all is_blank lines) refl (λ (p f : Bool). after_text n p f lines)
+    ∙ ap (λ (x : Bool). found || ((not (is_blank line && list_all is_blank lines) && pending) || x)) (kept_any (is_short n) (is_blank line && list_all is_blank lines) line (to_text lines))
+  where
+    text : (a p f x : Bool) → ((f || p) || ((not a && false) || x)) ≡ (f || (p || x))
+    text a p true x = refl
+    text a true false x = refl
+    text true false false x = refl
+    text false false false x = refl
+
+    blank : (p f g x : Bool) → (f || ((p || g) || x)) ≡ (f || (p || (g || x)))
+    blank p true g x = refl
+    blank true false g x = refl
+    blank false false g x = refl
+
+    by : (b a : Bool) → list_all is_blank lines ≡ a
+        → ((p f : Bool) → below n true p f lines ≡ (f || ((not (list_all is_blank lines) && p) || shorts n lines)))
+        → cond b (below n true (pending || misses n (n - length line)) found lines) (below n true false (found || pending) lines)
+        ≡ (found || ((not (b && a) && pending) || cond (b && a) false ((b && misses n (length line)) || shorts n lines)))
+    by false a e r = r false (found || pending) ∙ text (list_all is_blank lines) pending found (shorts n lines)
+    by true true e r =
+        r (pending || misses n (n - length line)) found ∙ ap (λ (x : Bool). found || ((not x && (pending || misses n (n - length line))) || shorts n lines)) e
+        ∙ ap (λ (l : List (List ℕ)). found || list_any (is_short n) l) (none_kept lines e)
+    by true false e r =
+        r (pending || misses n (n - length line)) found ∙ ap (λ (x : Bool). found || ((not x && (pending || misses n (n - length line))) || shorts n lines)) e
+        ∙ blank pending found (misses n (n - length line)) (shorts n lines) ∙ ap (λ (g : Bool). found || (pending || (g || shorts n lines))) (misses_is n (length line))
+
+before_text : (n : ℕ) (lines : List (List ℕ)) → below n false false false lines ≡ list_any (is_short n) (to_text (from_text lines))
+before_text n [] = refl
+before_text n (line ∷ lines) = by (is_blank line) refl (before_text n lines)
+  where
+    none : (a x : Bool) → ((not a && false) || x) ≡ x
+    none true x = refl
+    none false x = refl
+
+    by : (b : Bool) → is_blank line ≡ b → below n false false false lines ≡ list_any (is_short n) (to_text (from_text lines))
+        → cond b (below n false false false lines) (below n true false false lines) ≡ list_any (is_short n) (to_text (cond b (from_text lines) (line ∷ lines)))
+    by true e r = r
+    by false e r =
+        after_text n false false lines ∙ none (list_all is_blank lines) (shorts n lines)
+        ∙ ap (λ (b : Bool). cond (b && list_all is_blank lines) false ((b && misses n (length line)) || shorts n lines)) (sym e)
+        ∙ kept_any (is_short n) (is_blank line && list_all is_blank lines) line (to_text lines)
+
+blank_below : (n : ℕ) (text pending found : Bool) (lines : List (List ℕ)) → list_all is_blank lines ≡ true → below n text pending found lines ≡ found
+blank_below n text pending found [] h = refl
+blank_below n text pending found (line ∷ lines) h =
+    let b = both (is_blank line) (list_all is_blank lines) h in
+    let next = pending || (text && misses n (n - length line)) in
+    ap (λ (x : Bool). cond x (below n text next found lines) (below n true false (found || pending) lines)) b.0 ∙ blank_below n text next found lines b.1
+
+-- where only the first line may have a text, no line is short
+none_below : (n : ℕ) (first : List ℕ) (lines : List (List ℕ)) → list_all is_blank lines ≡ true → list_any (is_short n) (to_text (from_text (first ∷ lines))) ≡ false
+none_below n first lines h = sym (before_text n (first ∷ lines)) ∙ by (is_blank first)
+  where
+    by : (b : Bool) → cond b (below n false false false lines) (below n true false false lines) ≡ false
+    by true = blank_below n false false false lines h
+    by false = blank_below n true false false lines h
+
+-- ---- what a pass finds
+
+found_short : (raw first : List ℕ) (others : List (List ℕ)) → IsUtf8 raw → lines_of (unquoted (chars raw)) ≡ first ∷ others
+    → (scan (scan (length raw) (chars raw)).indent (chars raw)).is_cut ≡ has_short (first ∷ others)
+found_short raw first others u e = by (least_found (length raw) others (common_fits raw first others u e))
+  where
+    start : (b : Bool) → cond b (length raw) (length raw - (0 - indent first)) ≡ length raw
+    start true = refl
+    start false = omega arith
+
+    indented : (scan (length raw) (chars raw)).indent ≡ under (length raw) others
+    indented =
+        ap (λ (s : Scan). s.indent) (sym (scanned_unquoted (chars raw) (first_scan (length raw)))) ∙ (scans 0 (unquoted (chars raw)) (first_scan (length raw)) first others e).least
+        ∙ ap (λ (k : ℕ). under k others) (start (is_blank first))
+
+    cut : (m n : ℕ) → m ≡ n → AreDeep n others → (scan m (chars raw)).is_cut ≡ list_any (is_short n) (to_text (from_text (first ∷ others)))
+    cut m n f d =
+        ap (λ (s : Scan). s.is_cut) (sym (scanned_unquoted (chars raw) (first_scan m))) ∙ (scans n (unquoted (chars raw)) (first_scan m) first others e).cut f (λ b. omega arith) d
+        ∙ before_text n (first ∷ others)
+
+    by : (under (length raw) others ≡ common_indent others) ⊎ (list_all is_blank others ≡ true) → (scan (scan (length raw) (chars raw)).indent (chars raw)).is_cut ≡ has_short (first ∷ others)
+    by (inl h) = cut (scan (length raw) (chars raw)).indent (common_indent others) (indented ∙ h) (deep others)
+    by (inr h) =
+        let m = (scan (length raw) (chars raw)).indent in
+        cut m m refl (blank_deep m others h) ∙ none_below m first others h ∙ sym (none_below (common_indent others) first others h)
+
+pub told_by_scans : (raw : List ℕ) → IsUtf8 raw → not (scan (scan (length raw) (chars raw)).indent (chars raw)).is_cut ≡ has_one_reading raw
+unfolding has_one_reading
+told_by_scans raw u =
+    let s = lines_some (unquoted (chars raw)) in
+    ap not (found_short raw s.0 s.1 u s.2 ∙ ap has_short (sym s.2))
+
+-- ---- where no line but empty ones is blank
+
+never_cut : (cs : List ℕ) (blank some : Bool) (s : Scan) → s.is_pending ≡ false → s.is_cut ≡ false → (nat_lt 0 s.left ≡ true → blank ≡ true) → (ends_short s ≡ true → some ≡ true)
+    → has_blank_line blank some cs ≡ false → (scanned s cs).is_cut ≡ false
+never_cut [] blank some s p e f g h = e
+never_cut (c ∷ cs) blank some s p e f g h = by (is_line_end c) (is_blank_char c) (ends_short s) refl refl h (λ (b t : Bool) (x : Scan). never_cut cs b t x)
+  where
+    long : nat_lt s.indent s.indent ≡ false
+    long = grind (arith, nat_tests)
+
+    fewer : nat_lt 0 (s.left - 1) ≡ true → nat_lt 0 s.left ≡ true
+    fewer l = grind (arith, nat_tests)
+
+    whole : ends_short (at_line_end s) ≡ true → ⊥
+    whole g =
+        let none : nat_lt s.indent s.indent ≡ false = long in
+        let one = both s.has_text (nat_lt 0 s.indent && nat_lt s.indent s.indent) g in
+        let two = both (nat_lt 0 s.indent) (nat_lt s.indent s.indent) one.1 in
+        cc
+
+    short : ends_short s ≡ true → (blank && some) ≡ true
+    short d =
+        let one = both s.has_text (nat_lt 0 s.left && nat_lt s.left s.indent) d in
+        let two = both (nat_lt 0 s.left) (nat_lt s.left s.indent) one.1 in
+        ap₂ (λ (i j : Bool). i && j) (f two.0) (g d)
+
+    by : (a b d : Bool) → is_blank_char c ≡ b → ends_short s ≡ d → cond a ((blank && some) || has_blank_line true false cs) (has_blank_line (blank && b) true cs) ≡ false
+        → ((blank some : Bool) (x : Scan) → x.is_pending ≡ false → x.is_cut ≡ false → (nat_lt 0 x.left ≡ true → blank ≡ true) → (ends_short x ≡ true → some ≡ true) → has_blank_line blank some cs ≡ false → (scanned x cs).is_cut ≡ false)
+        → (scanned (cond a (at_line_end s) (cond b (at_blank s) (at_text s))) cs).is_cut ≡ false
+    by true b true y z h r = let no = short z in let none = (or_false (blank && some) (has_blank_line true false cs) h).0 in absurd (cc)
+    by true b false y z h r = r true false (at_line_end s) (ap₂ (λ (i j : Bool). i || j) p z) e (λ l. refl) (λ l. absurd (whole l)) (or_false (blank && some) (has_blank_line true false cs) h).1
+    by false true d y z h r = r (blank && true) true (at_blank s) p e (λ l. ap (λ (i : Bool). i && true) (f (fewer l))) (λ l. refl) h
+    by false false d y z h r = r (blank && false) true (at_text s) refl (ap₂ (λ (i j : Bool). i || j) e p) (λ l. absurd (cc)) (λ l. refl) h
+
+pub told_by_lines : (raw : List ℕ) → IsUtf8 raw → has_blank_line true false (chars raw) ≡ false → true ≡ has_one_reading raw
+told_by_lines raw u h =
+    let m : ℕ = (scan (length raw) (chars raw)).indent in
+    ap not (sym (never_cut (chars raw) true false (first_scan m) refl refl (λ l. refl) (λ l. absurd (cc)) h)) ∙ told_by_scans raw u
+
+-- ---- lines that are empty or as long as the indent
+
+abbrev pub IsWhole : ℕ → List ℕ → Type 0
+IsWhole n line = (line ≡ []) ⊎ (n ≤ length line)
+
+abbrev pub AreWhole : ℕ → List (List ℕ) → Type 0
+AreWhole n lines = AllByRecursion (IsWhole n) lines
+
+whole : (n : ℕ) (line : List ℕ) → IsDeep n line → is_short n line ≡ false → IsWhole n line
+whole n line (inr d) s = inr (omega (arith, prefix_len-le-length is_blank_char line))
+whole n line (inl b) s = by (nat_lt 0 (length line)) (nat_lt (length line) n) refl refl (sym (ap (λ (x : Bool). x && (nat_lt 0 (length line) && nat_lt (length line) n)) b) ∙ s)
+  where
+    by : (a b : Bool) → nat_lt 0 (length line) ≡ a → nat_lt (length line) n ≡ b → (a && b) ≡ false → IsWhole n line
+    by false b e f g = inl (nil_from_length line (grind (arith, nat_tests)))
+    by true false e f g = inr (grind (arith, nat_tests))
+    by true true e f g = absurd (cc)
+
+wholes : (n : ℕ) (lines : List (List ℕ)) → AreDeep n lines → list_any (is_short n) lines ≡ false → AreWhole n lines
+wholes n [] d h = tt
+wholes n (line ∷ lines) d h = let f = or_false (is_short n line) (list_any (is_short n) lines) h in (whole n line d.0 f.0, wholes n lines d.1 f.1)
+
+-- those after the first line
+kept_whole : (n : ℕ) (first : List ℕ) (others : List (List ℕ)) → AreDeep n others → list_any (is_short n) (to_text (from_text (first ∷ others))) ≡ false → AreWhole n (to_text (cond (is_blank first) (from_text others) others))
+kept_whole n first others d h = by (is_blank first) refl h
+  where
+    all : (b : Bool) → AreDeep n (to_text (cond b (from_text others) others))
+    all true = to_text-all (IsDeep n) (from_text others) (from_text-all (IsDeep n) others d)
+    all false = to_text-all (IsDeep n) others d
+
+    by : (b : Bool) → is_blank first ≡ b → list_any (is_short n) (to_text (cond b (from_text others) (first ∷ others))) ≡ false → AreWhole n (to_text (cond b (from_text others) others))
+    by true e g = wholes n (to_text (from_text others)) (all true) g
+    by false e g =
+        let more : list_any (is_short n) (first ∷ to_text others) ≡ false = sym (ap (λ (x : Bool). list_any (is_short n) (cond (x && list_all is_blank others) [] (first ∷ to_text others))) e) ∙ g in
+        wholes n (to_text others) (all false) (or_false (is_short n first) (shorts n others) more).1
+
 -- ---- both cut whole lines alike
 
 drop_none : (n : ℕ) → drop {A = ℕ} n [] ≡ []
@@ -367,53 +557,13 @@ unfolding specified_value block_value
 same_values raw first others e h =
     ap (λ (l : List (List ℕ)). joined (to_text (from_text (cut l)))) e ∙ ap joined (cut_same first others h) ∙ sym (ap (λ (l : List (List ℕ)). joined (to_text (from_text (dedent l)))) e)
 
-pub one_reading : (raw : List ℕ) → IsUtf8 raw → has_one_reading raw ≡ true → specified_value (chars raw) ≡ block_value (chars raw)
+pub one_reading : (raw : List ℕ) → has_one_reading raw ≡ true → specified_value (chars raw) ≡ block_value (chars raw)
 unfolding has_one_reading
-one_reading raw u h =
-    let cs : List ℕ = chars raw in
-    let s = lines_some (unquoted cs) in
-    let n = common_indent s.1 in
-    let pass : (most : ℕ) → n ≤ most → Scanned n (first_scan most) (scan most cs) s.0 s.1 =
-    λ most l. subst (λ (x : Scan). Scanned n (first_scan most) x s.0 s.1) (scanned_unquoted cs (first_scan most)) (scans n (unquoted cs) (first_scan most) s.0 s.1 s.2 l (λ _. omega arith) (deep s.1)) in
-    let first = pass (length raw) (common_fits raw s.0 s.1 u s.2) in
-    let second = pass (scan (length raw) cs).indent first.most in
-    by (scan (length raw) cs).is_cut (scan (scan (length raw) cs).indent cs).is_cut refl refl h s.0 s.1 s.2 (λ e. (first.found e).from refl) (λ e. (second.found e).from refl)
+one_reading raw h =
+    let s = lines_some (unquoted (chars raw)) in
+    let none : has_short (s.0 ∷ s.1) ≡ false = sym (ap has_short s.2) ∙ not_true (has_short (lines_of (unquoted (chars raw)))) h in
+    same_values (chars raw) s.0 s.1 s.2 (kept_whole (common_indent s.1) s.0 s.1 (deep s.1) none)
   where
-    by : (a b : Bool) → (scan (length raw) (chars raw)).is_cut ≡ a → (scan (scan (length raw) (chars raw)).indent (chars raw)).is_cut ≡ b → (not a || not b) ≡ true
-        → (first : List ℕ) (others : List (List ℕ)) → lines_of (unquoted (chars raw)) ≡ first ∷ others
-        → ((scan (length raw) (chars raw)).is_cut ≡ false → AreWhole (common_indent others) (to_text (cond (is_blank first) (from_text others) others)))
-        → ((scan (scan (length raw) (chars raw)).indent (chars raw)).is_cut ≡ false → AreWhole (common_indent others) (to_text (cond (is_blank first) (from_text others) others)))
-        → specified_value (chars raw) ≡ block_value (chars raw)
-    by false b e f t first others is one two = same_values (chars raw) first others is (one e)
-    by true false e f t first others is one two = same_values (chars raw) first others is (two f)
-    by true true e f t first others is one two = absurd (cc)
-
--- ---- what the code tells
-
--- in one line nothing is pending
-never_cut : (cs : List ℕ) (s : Scan) → s.is_pending ≡ false → s.is_cut ≡ false → InLine cs → (scanned s cs).is_cut ≡ false
-never_cut [] s p e h = e
-never_cut (c ∷ cs) s p e h = by (is_line_end c) (is_blank_char c) h.0 (never_cut cs)
-  where
-    by : (a b : Bool) → a ≡ false → ((x : Scan) → x.is_pending ≡ false → x.is_cut ≡ false → InLine cs → (scanned x cs).is_cut ≡ false) → (scanned (cond a (at_line_end s) (cond b (at_blank s) (at_text s))) cs).is_cut ≡ false
-    by true b f r = absurd (cc)
-    by false true f r = r (at_blank s) p e h.1
-    by false false f r = r (at_text s) refl (ap₂ (λ (x y : Bool). x || y) e p) h.1
-
-pub told_one_line : (raw first rest : List ℕ) → IsFirstLine raw first rest → length rest ≡ 0 → true ≡ has_one_reading raw
-unfolding has_one_reading
-told_one_line raw first rest l none =
-    let empty : chars rest ≡ [] = ap chars (nil_from_length rest none) ∙ chars-nil in
-    let whole : chars raw ≡ chars first = l.whole ∙ ap (λ (x : List ℕ). chars first ++ x) empty ∙ append-nil (chars first) in
-    let clean = never_cut (chars raw) (first_scan (length raw)) refl refl (subst InLine (sym whole) l.in_line) in
-    sym (ap (λ (x : Bool). not x || not (scan (scan (length raw) (chars raw)).indent (chars raw)).is_cut) clean)
-
-pub told_first : (raw : List ℕ) (first : Scan) → first ≡ scan (length raw) (chars raw) → not first.is_cut ≡ true → not first.is_cut ≡ has_one_reading raw
-unfolding has_one_reading
-told_first raw first e f =
-    f ∙ sym (ap (λ (x : Bool). x || not (scan first.indent (chars raw)).is_cut) f) ∙ ap (λ (s : Scan). not s.is_cut || not (scan s.indent (chars raw)).is_cut) e
-
-pub told_second : (raw : List ℕ) (first second : Scan) → first ≡ scan (length raw) (chars raw) → not first.is_cut ≡ false → second ≡ scan first.indent (chars raw) → not second.is_cut ≡ has_one_reading raw
-unfolding has_one_reading
-told_second raw first second e f g =
-    ap (λ (s : Scan). not s.is_cut) g ∙ sym (ap (λ (x : Bool). x || not (scan first.indent (chars raw)).is_cut) f) ∙ ap (λ (s : Scan). not s.is_cut || not (scan s.indent (chars raw)).is_cut) e
+    not_true : (b : Bool) → not b ≡ true → b ≡ false
+    not_true true h = absurd (cc)
+    not_true false h = refl

@@ -4,7 +4,7 @@ use Rattle.std.proofs.lemmas.Bool.Decides.{nat_tests}
 use lib.Utf8.{scalar}
 use Rattle.std.specs.Char.{IsScalar}
 use Rattle.std.specs.List.{AllByRecursion}
-use Rattle.std.specs.Str.{chars, all_scalars, IsUtf8}
+use Rattle.std.specs.Str.{chars, all_scalars}
 use Rattle.graphql_tokens.specs.tokens.Alike.{inside, value_of_block, IsAlike, AreAlike}
 use Rattle.graphql_tokens.specs.tokens.Edition.{Current}
 use Rattle.graphql_tokens.specs.tokens.Proper.{Spells, IsProperBare}
@@ -18,10 +18,10 @@ use Rattle.graphql_layout.specs.declared.ending.Ending.{Ending}
 use Rattle.graphql_layout.specs.inner.Endings.{ending_by, ending_of, stops, stops_token, gap_before, joined}
 use Rattle.graphql_layout.specs.texts.SameTokens.{bare_end}
 use Rattle.graphql_layout.specs.texts.OneReading.{has_one_reading}
-use Rattle.graphql_layout.specs.texts.Shortened.{shortest, shorter, shortened}
+use Rattle.graphql_layout.specs.texts.Shortened.{compact, shorter, shortened}
 use Rattle.graphql_layout.specs.texts.Specified.{specified_value_of_block, IsAlikeAsSpecified, AreAlikeAsSpecified}
 use Rattle.graphql_layout.proofs.BlockScalars.{value_all}
-use Rattle.graphql_layout.proofs.BlockTexts.{AreScalars, shortest_spells, shortest_means}
+use Rattle.graphql_layout.proofs.BlockTexts.{AreScalars, compact_spells, compact_means}
 use Rattle.graphql_layout.proofs.Joined.{IsSpelled, ArePrintable, spelled}
 use Rattle.graphql_layout.proofs.OneReadings.{one_reading}
 use Rattle.graphql_layout.proofs.QuotedBlocks.{quoted, inside_is}
@@ -33,7 +33,7 @@ block spelling = record { kind = Block; spelling = spelling }
 
 -- as it was, or in few characters
 abbrev pub IsShort : Bare → Type 0
-IsShort b = (shortened b ≡ b) ⊎ ((b.kind ≡ Block) × (shortened b ≡ block (shortest (value_of_block b.spelling))) × (length (shortest (value_of_block b.spelling)) ≤ length b.spelling) × (has_one_reading (inside 3 b.spelling) ≡ true))
+IsShort b = (shortened b ≡ b) ⊎ ((b.kind ≡ Block) × (shortened b ≡ block (compact (value_of_block b.spelling))) × (length (compact (value_of_block b.spelling)) ≤ length b.spelling) × (has_one_reading (inside 3 b.spelling) ≡ true))
 
 pub short : (b : Bare) → IsShort b
 short b = by b.kind b.spelling
@@ -49,7 +49,7 @@ short b = by b.kind b.spelling
     by Name spelling = inl refl
     by Number spelling = inl refl
     by String spelling = inl refl
-    by Block spelling = of_two spelling (shortest (value_of_block spelling)) (has_one_reading (inside 3 spelling)) (nat_lt (length spelling) (length (shortest (value_of_block spelling)))) refl refl
+    by Block spelling = of_two spelling (compact (value_of_block spelling)) (has_one_reading (inside 3 spelling)) (nat_lt (length spelling) (length (compact (value_of_block spelling)))) refl refl
     by Fault spelling = inl refl
     by End spelling = inl refl
 
@@ -78,7 +78,7 @@ short_spelled b w s = by (short b)
     by (inl e) = (w, subst (λ (x : Bare). IsSpelled x w) (sym e) s)
     by (inr h) =
         let value = value_of_block b.spelling in
-        let t = spelled (block (shortest value)) (shortest_spells value (value_scalars b.spelling (spells_block b w s h.0))) in
+        let t = spelled (block (compact value)) (compact_spells value (value_scalars b.spelling (spells_block b w s h.0))) in
         (t.0, subst (λ (x : Bare). IsSpelled x t.0) (sym h.1) t.1)
 
 pub short_printable : (bs : List Bare) → ArePrintable bs → ArePrintable (map shortened bs)
@@ -98,12 +98,12 @@ short_alike b s = by (short b)
         inr (record {
           block = h.0;
           other_block = ap (λ (x : Bare). x.kind) h.1;
-          value = sym (ap (λ (x : Bare). value_of_block x.spelling) h.1 ∙ (shortest_means value (chars (inside 3 b.spelling)) (value_scalars b.spelling (s h.0)) refl).0);
+          value = sym (ap (λ (x : Bare). value_of_block x.spelling) h.1 ∙ (compact_means value (chars (inside 3 b.spelling)) (value_scalars b.spelling (s h.0)) refl).0);
         })
 
 -- by the specification
 pub reads_alike : (spelling : List ℕ) → Spells Block spelling → has_one_reading (inside 3 spelling) ≡ true → specified_value_of_block spelling ≡ value_of_block spelling
-reads_alike spelling s h = let q = quoted spelling s in one_reading (inside 3 spelling) (subst IsUtf8 (sym (inside_is spelling q)) q.utf8) h
+reads_alike spelling s h = one_reading (inside 3 spelling) h
 
 short_specified : (b : Bare) → SpellsBlock b → IsAlikeAsSpecified b (shortened b)
 short_specified b s is = by (short b)
@@ -113,7 +113,7 @@ short_specified b s is = by (short b)
     by (inr h) =
         let value = value_of_block b.spelling in
         reads_alike b.spelling (s is) h.3
-        ∙ sym (ap (λ (x : Bare). specified_value_of_block x.spelling) h.1 ∙ (shortest_means value (chars (inside 3 b.spelling)) (value_scalars b.spelling (s is)) refl).1)
+        ∙ sym (ap (λ (x : Bare). specified_value_of_block x.spelling) h.1 ∙ (compact_means value (chars (inside 3 b.spelling)) (value_scalars b.spelling (s is)) refl).1)
 
 pub all_specified : (bs : List Bare) → ArePrintable (bs ++ bare_end ∷ []) → AreAlikeAsSpecified bs (map shortened bs)
 all_specified [] p = tt
@@ -139,9 +139,9 @@ twice_one b a = by (short b) a
     by (inl e) a = ap shortened e
     by (inr h) (inl e) = ap shortened (sym e)
     by (inr h) (inr r) =
-        let one = shortest (value_of_block b.spelling) in
+        let one = compact (value_of_block b.spelling) in
         let value : value_of_block one ≡ value_of_block b.spelling = sym (r.value ∙ ap (λ (x : Bare). value_of_block x.spelling) h.1) in
-        ap shortened h.1 ∙ ap (λ (v : List ℕ). block (cond (has_one_reading (inside 3 one)) (shorter (shortest v) one) one)) value
+        ap shortened h.1 ∙ ap (λ (v : List ℕ). block (cond (has_one_reading (inside 3 one)) (shorter (compact v) one) one)) value
         ∙ ap block (same one (has_one_reading (inside 3 one)) (nat_lt (length one) (length one))) ∙ sym h.1
 
 pub twice : (bs : List Bare) → AreAlike bs (map shortened bs) → map shortened (map shortened bs) ≡ map shortened bs
@@ -167,7 +167,7 @@ same_stop ending b s = by (short b)
     by (inl e) = ap (λ (x : Bare). stops_token ending x.spelling) e
     by (inr h) =
         let value = value_of_block b.spelling in
-        ap (λ (x : Bare). stops_token ending x.spelling) h.1 ∙ quote_first ending (shortest value) (shortest_spells value (value_scalars b.spelling (s h.0)))
+        ap (λ (x : Bare). stops_token ending x.spelling) h.1 ∙ quote_first ending (compact value) (compact_spells value (value_scalars b.spelling (s h.0)))
         ∙ sym (quote_first ending b.spelling (s h.0))
 
 -- ---- its length

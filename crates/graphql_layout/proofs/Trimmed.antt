@@ -34,7 +34,7 @@ and_false : (b : Bool) → (b && false) ≡ false
 and_false true = refl
 and_false false = refl
 
-not_blank : (c : ℕ) (kept blanks : List ℕ) → EndsBare (c ∷ kept) → is_blank (c ∷ (kept ++ blanks)) ≡ false
+pub not_blank : (c : ℕ) (kept blanks : List ℕ) → EndsBare (c ∷ kept) → is_blank (c ∷ (kept ++ blanks)) ≡ false
 not_blank c [] blanks h = ap (λ (b : Bool). b && is_blank blanks) h
 not_blank c (d ∷ kept) blanks h = ap (λ (b : Bool). is_blank_char c && b) (not_blank d kept blanks h) ∙ and_false (is_blank_char c)
 
@@ -176,5 +176,8 @@ bare_last s u n front c e = by (is_blank_char c) refl
         let last : get_or s (length s - 1) 0 ≡ c = ap (λ (i : ℕ). get_or s i 0) long ∙ ap (λ (l : List ℕ). get_or l (length bytes) 0) whole ∙ get_or-append_seam bytes c [] 0 in
         sym (ap is_blank_char last) ∙ n
 
+pub bare_end : (s : List ℕ) → IsUtf8 s → is_blank_char (get_or s (length s - 1) 0) ≡ false → EndsBare (chars s)
+bare_end s u n = ends_bare (chars s) (bare_last s u n)
+
 pub bare_stays : (s : List ℕ) → IsUtf8 s → is_blank_char (get_or s (length s - 1) 0) ≡ false → chars s ≡ trimmed (chars s)
-bare_stays s u n = sym (kept_is (chars s) [] (ends_bare (chars s) (bare_last s u n)) tt) ∙ ap trimmed (append-nil (chars s))
+bare_stays s u n = sym (kept_is (chars s) [] (bare_end s u n) tt) ∙ ap trimmed (append-nil (chars s))

@@ -1,4 +1,4 @@
 -- Public: what a reader of the contracts has to believe.
 pub mod texts
--- Inner: what may touch what, what is written so far, and how a value is written as a block string.
+-- Inner: what may touch what, what is written so far, and passes over characters and lines.
 pub mod inner

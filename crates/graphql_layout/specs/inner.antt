@@ -1,4 +1,5 @@
 pub mod Marks
+pub mod Scans
 pub mod Endings
 pub mod Written
 pub mod ItemsIn

@@ -286,8 +286,8 @@ fn is_hung(value: &str) -> bool
 }
 
 // Writes a block string of the value in few characters.
-fn push_shortest(out: &mut String, value: &str) -> Result<(), AllocError>
-    ensures { OnOk result (string_bytes out.new ≡ string_bytes out.old ++ short.shortest (chars value.now)) }
+fn push_compact(out: &mut String, value: &str) -> Result<(), AllocError>
+    ensures { OnOk result (string_bytes out.new ≡ string_bytes out.old ++ short.compact (chars value.now)) }
 {
     let is_open = push_front(out, value, is_hung(value), 0)?;
     push_back(out, is_open, 0)
@@ -319,7 +319,7 @@ pub fn push_shortened(alloc: Global, out: &mut String, spelling: &str) -> Result
     }
     let value = block_string_value(alloc, raw)?;
     let mut written = String::with_capacity(alloc, spelling.len())?;
-    push_shortest(&mut written, &value)?;
+    push_compact(&mut written, &value)?;
     if written.len() > spelling.len() {
         out.push_str(spelling)
     } else {

@@ -45,7 +45,8 @@ pub fn split_line(text: &str) -> (&str, &str)
     text.split_at(line_length(text.as_bytes()))
 }
 
-fn ends_in_blank(text: &str) -> bool
+/// Whether the last character is a blank.
+pub fn ends_in_blank(text: &str) -> bool
     ensures { result ≡ is_blank_char (slice_index text.now (length text.now - 1)) }
 {
     match text.as_bytes().last() {

@@ -1,39 +1,20 @@
--- Whether a block string has one value, by this parser and by the specification, as far as a pass over its characters tells.
--- Source: this project's choice.
-use Rattle.std.specs.Prelude.{ℕ, ◌-◌, Bool, false, true, not, ◌&&◌, ◌||◌, nat_lt, if◌then◌else◌, List, [], ◌∷◌, length}
+-- Block strings that have one value, by this parser and by the specification.
+-- Source: GraphQL October 2021, section 2.9.4 (String Value), `BlockStringValue`. Of a blank line that is shorter than the common indent
+-- the specification leaves nothing, and this parser leaves it as it is: `dedented` of `graphql_tokens`.
+use Rattle.std.specs.Prelude.{ℕ, Bool, false, not, ◌&&◌, nat_lt, List, [], ◌∷◌, length}
+use Rattle.std.specs.List.{list_any}
 use Rattle.std.specs.Str.{chars}
-use Rattle.graphql_tokens.specs.tokens.BlockText.{is_blank_char}
-use Rattle.graphql_tokens.specs.tokens.Place.{is_line_end}
-use Rattle.graphql_layout.specs.declared.one_reading.Scan.{Scan}
+use Rattle.graphql_tokens.specs.tokens.BlockText.{unquoted, lines_of, is_blank, common_indent, from_text, to_text}
 
--- the line so far is a short one between texts: it has a blank, but fewer than the indent
-abbrev pub is_short : Scan → Bool
-is_short s = s.has_text && (nat_lt 0 s.left && nat_lt s.left s.indent)
+-- a line of blanks alone, of one at least, but fewer than the indent
+abbrev pub is_short : ℕ → List ℕ → Bool
+is_short indent line = is_blank line && (nat_lt 0 (length line) && nat_lt (length line) indent)
 
-abbrev pub at_line_end : Scan → Scan
-at_line_end s = record { indent = s.indent; left = s.indent; has_text = s.has_text; is_pending = s.is_pending || is_short s; is_cut = s.is_cut }
+-- Between the first and the last of the lines that aren't blank, one is shorter than the common indent of those after the first line.
+abbrev pub has_short : List (List ℕ) → Bool
+has_short [] = false
+has_short (first ∷ others) = list_any (is_short (common_indent others)) (to_text (from_text (first ∷ others)))
 
-abbrev pub at_blank : Scan → Scan
-at_blank s = record { indent = s.indent; left = s.left - 1; has_text = s.has_text; is_pending = s.is_pending; is_cut = s.is_cut }
-
-abbrev pub at_text : Scan → Scan
-at_text s = record { indent = s.indent - s.left; left = 0; has_text = true; is_pending = false; is_cut = s.is_cut || s.is_pending }
-
--- one character on
-abbrev pub step : Scan → ℕ → Scan
-step s c = if is_line_end c then at_line_end s else (if is_blank_char c then at_blank s else at_text s)
-
-abbrev pub scanned : Scan → List ℕ → Scan
-scanned s [] = s
-scanned s (c ∷ cs) = scanned (step s c) cs
-
--- before the first line, whose indent isn't looked at; those of the others are at most this
-abbrev pub first_scan : ℕ → Scan
-first_scan most = record { indent = most; left = 0; has_text = false; is_pending = false; is_cut = false }
-
-abbrev pub scan : ℕ → List ℕ → Scan
-scan most cs = scanned (first_scan most) cs
-
--- No short line was met before the least indent was known; or none is met now that it is.
+-- no line that the value keeps is so short
 unfoldable pub has_one_reading : List ℕ → Bool
-has_one_reading raw = not (scan (length raw) (chars raw)).is_cut || not (scan (scan (length raw) (chars raw)).indent (chars raw)).is_cut
+has_one_reading raw = not (has_short (lines_of (unquoted (chars raw))))

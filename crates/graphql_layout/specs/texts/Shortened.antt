@@ -58,15 +58,15 @@ abbrev pub line_feed_if : Bool → List ℕ
 line_feed_if b = if b then codes "\n" else []
 
 -- the block string with this value that is written in few characters, as bytes
-unfoldable pub shortest : List ℕ → List ℕ
-shortest value = encode_utf8_all (codes "\"\"\"" ++ ((line_feed_if (is_hung value) ++ (escaped 0 value ++ line_feed_if (is_open 0 false value))) ++ codes "\"\"\""))
+unfoldable pub compact : List ℕ → List ℕ
+compact value = encode_utf8_all (codes "\"\"\"" ++ ((line_feed_if (is_hung value) ++ (escaped 0 value ++ line_feed_if (is_open 0 false value))) ++ codes "\"\"\""))
 
 -- the first, if it isn't longer than the second, and else that
 abbrev pub shorter : List ℕ → List ℕ → List ℕ
 shorter one other = if nat_lt (length other) (length one) then other else one
 
 abbrev pub shortened_by : TokenKind → List ℕ → List ℕ
-shortened_by Block spelling = if has_one_reading (inside 3 spelling) then shorter (shortest (value_of_block spelling)) spelling else spelling
+shortened_by Block spelling = if has_one_reading (inside 3 spelling) then shorter (compact (value_of_block spelling)) spelling else spelling
 shortened_by other spelling = spelling
 
 -- the token; a block string that has one reading is written in few characters, if these aren't more than there are

@@ -18,9 +18,9 @@ const LONGEST_CALL: usize = 80;
 pub struct Planner {
     alloc: Global,
     walk: Walk,
-    // What each token is that was read ahead, and whether each bracket is broken that opens among them: a list or an object that
-    // was broken after the opening bracket, definitions of arguments of which one is described, the arguments of a field that are
-    // too long, and what has a comment in it. How many of both were passed since.
+    // What each token is that was read ahead, and whether each bracket is broken that opens among them: a list, an object,
+    // variables or definitions of arguments that were broken after the opening bracket, such definitions of which one is described,
+    // the arguments of a field that are too long, and what has a comment in it. How many of both were passed since.
     steps: Vec<Step>,
     passed: usize,
     broken: Vec<bool>,
@@ -111,7 +111,10 @@ impl Planner {
             Bracket::Set => Ok(true),
             Bracket::List | Bracket::Object => Ok(begins_on_next_line(after)),
             Bracket::Call => self.is_long(after),
-            Bracket::Other => Ok(!self.walk.is_in_request() && is_described(after)),
+            Bracket::Definitions => Ok(
+                begins_on_next_line(after) || !self.walk.is_in_request() && is_described(after),
+            ),
+            Bracket::Directive => Ok(false),
         }
     }
 
@@ -199,13 +202,12 @@ impl Planner {
         Ok(spelling.len())
     }
 
-    fn is_in(&self, bracket: Bracket) -> bool {
-        matches!(self.open.last(), Some(open) if open.bracket == bracket)
-    }
-
     // Whether the innermost bracket is broken for this token and what is ignored before it.
     fn breaks(&self, gap: &str, step: &Step) -> bool {
-        if step.describes && self.is_in(Bracket::Other) {
+        let Some(open) = self.open.last() else {
+            return false;
+        };
+        if step.describes && open.bracket == Bracket::Definitions {
             return true;
         }
         if gap.is_empty() || gap == " " {
@@ -213,7 +215,7 @@ impl Planner {
         }
         let was_broken = step.is_first
             && step.role != Role::Closing
-            && (self.is_in(Bracket::List) || self.is_in(Bracket::Object))
+            && open.bracket.breaks_by_its_beginning()
             && memchr2(b'\n', b'\r', gap.as_bytes()).is_some();
         was_broken || memchr(b'#', gap.as_bytes()).is_some()
     }
@@ -267,7 +269,7 @@ impl Planner {
 fn gap_width(step: &Step) -> usize {
     match step.role {
         Role::Member if !step.is_first => 2,
-        Role::Apart | Role::Body => 1,
+        Role::Apart | Role::Heading | Role::Branch | Role::Body => 1,
         _ => 0,
     }
 }
@@ -354,6 +356,30 @@ fn begins_on_next_line(after: &str) -> bool {
             b'\n' | b'\r' => ends_line = true,
             b' ' | b'\t' | b',' | 0xEF | 0xBB | 0xBF => {}
             _ => return ends_line && !matches!(next, b')' | b']' | b'}'),
+        }
+    }
+    false
+}
+
+/// Whether the members of a union or the locations of a directive, with which this text begins, are on more lines than one: a line
+/// ends before the first of them, or before the second.
+pub fn is_spread(branches: &str) -> bool {
+    let mut rest = branches.as_bytes().iter();
+    let (mut has_name, mut has_bar, mut is_apart, mut ends_line) = (false, false, false, false);
+    while let Some(next) = rest.next() {
+        match *next {
+            b'\n' | b'\r' | b'#' if !has_name => return true,
+            b'\n' | b'\r' => ends_line = true,
+            b'#' => {
+                let _ = rest.find(|c| **c == b'\n' || **c == b'\r');
+                ends_line = true;
+            }
+            b' ' | b'\t' | b',' | 0xEF | 0xBB | 0xBF => is_apart = true,
+            b'|' => has_bar = has_name,
+            _ if has_bar => return ends_line,
+            b'"' => return false,
+            _ if has_name && (is_apart || ends_line) => return false,
+            _ => (has_name, is_apart) = (true, false),
         }
     }
     false

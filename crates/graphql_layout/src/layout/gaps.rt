@@ -1,5 +1,5 @@
 //! What stands before each token.
-use crate::layout::breaks::Planner;
+use crate::layout::breaks::{Planner, is_spread};
 use crate::layout::walk::{Role, Step};
 use graphql_tokens::lexer::TokenKind;
 use std::alloc::{AllocError, Global};
@@ -38,6 +38,14 @@ pub struct Place {
     pub inside: usize,
 }
 
+impl Place {
+    // After a comment it begins a line above the one of the closing bracket.
+    fn line_up(&mut self) {
+        self.depth = self.inside;
+        self.comments = self.inside;
+    }
+}
+
 /// A text up to one of its tokens.
 #[derive(Drop)]
 pub struct Layout {
@@ -46,6 +54,8 @@ pub struct Layout {
     open: Vec<bool>,
     is_broken: bool,
     depth: usize,
+    // Whether each of the members of a union or the locations of a directive that come now begins a line.
+    is_spread: bool,
 }
 
 impl Layout {
@@ -56,6 +66,7 @@ impl Layout {
             open: Vec::new(alloc),
             is_broken: false,
             depth: 0,
+            is_spread: false,
         }
     }
 
@@ -67,13 +78,18 @@ impl Layout {
         text: &str,
     ) -> Result<Place, AllocError> {
         let step = self.planner.pass(kind, spelling)?;
-        let place = self.place(&step);
-        if step.role == Role::Closing {
-            self.close();
+        let mut place = self.place(&step);
+        match step.role {
+            Role::Closing => self.close(),
+            Role::Heading => self.is_spread = is_spread(text.get(spelling.len()..).unwrap_or("")),
+            _ => {}
         }
         if let Some(bracket) = step.opens {
             let after = text.get(spelling.len()..).unwrap_or("");
             let is_broken = self.planner.is_broken(bracket, after)?;
+            if is_broken || bracket.marks().0 == b'(' {
+                place.line_up();
+            }
             self.open(is_broken)?;
         }
         Ok(place)
@@ -92,7 +108,8 @@ impl Layout {
             Role::Described => (Gap::Line, self.depth, self.depth),
             Role::Closing if is_broken => (Gap::Line, outer, self.depth),
             Role::Closing | Role::Touching => (Gap::Nothing, deeper, deeper),
-            Role::Apart => (Gap::Blank, deeper, deeper),
+            Role::Branch if self.is_spread => (Gap::Line, deeper, deeper),
+            Role::Apart | Role::Heading | Role::Branch => (Gap::Blank, deeper, deeper),
             Role::Body => (Gap::Blank, self.depth, self.depth),
             Role::End => (Gap::Nothing, self.depth, self.depth),
         };

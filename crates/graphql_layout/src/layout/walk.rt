@@ -14,8 +14,10 @@ pub enum Bracket {
     List,
     /// The arguments of a field that is selected.
     Call,
-    /// The arguments of a directive, the variables of an operation, or the arguments of a field or a directive that is defined.
-    Other,
+    /// The variables of an operation, or the arguments of a field or a directive that is defined.
+    Definitions,
+    /// The arguments of a directive.
+    Directive,
 }
 
 impl Bracket {
@@ -24,13 +26,13 @@ impl Bracket {
         match self {
             Bracket::Set | Bracket::Object => (b'{', b'}'),
             Bracket::List => (b'[', b']'),
-            Bracket::Call | Bracket::Other => (b'(', b')'),
+            _ => (b'(', b')'),
         }
     }
 
     /// Whether it is broken where what it holds begins on the next line.
     pub fn breaks_by_its_beginning(self) -> bool {
-        matches!(self, Bracket::List | Bracket::Object)
+        matches!(self, Bracket::List | Bracket::Object | Bracket::Definitions)
     }
 }
 
@@ -47,6 +49,10 @@ pub enum Role {
     Touching,
     /// It belongs to what is before it, and stands apart from it.
     Apart,
+    /// The same, and after it come the members of a union, or the locations of a directive.
+    Heading,
+    /// It begins one of these.
+    Branch,
     /// It opens the set of what is before it.
     Body,
     /// It closes the innermost open bracket.
@@ -81,6 +87,8 @@ enum Last {
     Dots,
     // `extend`
     Extend,
+    // One after which branches come.
+    Heading,
     // Another after which a name or a value belongs to it.
     Wanting,
     // A description.
@@ -91,6 +99,17 @@ enum Last {
     Closed,
 }
 
+// What is defined.
+#[derive(Clone, Copy, PartialEq)]
+enum Defined {
+    // An operation or a fragment.
+    Request,
+    // A directive.
+    Directive,
+    // Another.
+    Other,
+}
+
 /// The tokens of a text up to one of them.
 #[derive(Drop)]
 pub struct Walk {
@@ -98,8 +117,7 @@ pub struct Walk {
     open: Vec<Bracket>,
     innermost: Option<Bracket>,
     last: Last,
-    // Whether the definition is one of a request.
-    is_request: bool,
+    defined: Defined,
     // Whether the last name is that of a directive.
     is_directive: bool,
 }
@@ -111,7 +129,7 @@ impl Walk {
             open: Vec::new(alloc),
             innermost: None,
             last: Last::Start,
-            is_request: false,
+            defined: Defined::Other,
             is_directive: false,
         }
     }
@@ -129,7 +147,7 @@ impl Walk {
 
     /// Whether the definition is one of a request.
     pub fn is_in_request(&self) -> bool {
-        self.is_request
+        self.defined == Defined::Request
     }
 
     // A token that is this, and opens nothing.
@@ -163,8 +181,14 @@ impl Walk {
     #[inline(always)]
     fn pass_name(&mut self, name: &str) -> Step {
         let step = self.at(self.role_of_name(name));
-        if step.role == Role::Definition {
-            self.is_request = matches!(name, "query" | "mutation" | "subscription" | "fragment");
+        if step.role == Role::Definition
+            || step.role == Role::Described && self.innermost.is_none()
+        {
+            self.defined = match name {
+                "query" | "mutation" | "subscription" | "fragment" => Defined::Request,
+                "directive" => Defined::Directive,
+                _ => Defined::Other,
+            };
         }
         self.is_directive = self.last == Last::Sigil;
         self.last = if self.innermost.is_some() {
@@ -179,10 +203,12 @@ impl Walk {
         match self.last {
             Last::Start | Last::Opening | Last::Closed => self.beginning(),
             Last::Whole if self.innermost.is_some() => Role::Member,
+            Last::Whole if name == "on" && self.defined == Defined::Directive => Role::Heading,
             Last::Whole if !matches!(name, "implements" | "on" | "repeatable") => Role::Definition,
             Last::Description => Role::Described,
             Last::Sigil => Role::Touching,
             Last::Dots if name != "on" => Role::Touching,
+            Last::Heading => Role::Branch,
             _ => Role::Apart,
         }
     }
@@ -202,7 +228,9 @@ impl Walk {
             return Last::Extend;
         }
         let is_clause = self.last == Last::Whole && matches!(name, "implements" | "on");
-        if is_keyword || is_clause {
+        if role == Role::Heading {
+            Last::Heading
+        } else if is_keyword || is_clause {
             Last::Wanting
         } else {
             Last::Whole
@@ -224,9 +252,9 @@ impl Walk {
             ..self.at(self.role_of_punct(mark, opens))
         };
         if step.role == Role::Definition {
-            self.is_request = mark == b'{';
+            self.defined = Defined::Request;
         }
-        self.last = after_punct(mark);
+        self.last = after_punct(mark, step.role);
         if let Some(bracket) = opens {
             self.open.push(bracket)?;
             self.innermost = opens;
@@ -257,7 +285,11 @@ impl Walk {
         } else if self.touches(mark) {
             Role::Touching
         } else {
-            Role::Apart
+            match mark {
+                b'=' if self.innermost.is_none() => Role::Heading,
+                b'|' => Role::Branch,
+                _ => Role::Apart,
+            }
         }
     }
 
@@ -287,14 +319,23 @@ impl Walk {
     fn opened(&self, mark: u8) -> Option<Bracket> {
         match mark {
             b'[' => Some(Bracket::List),
-            b'(' if self.is_in(Bracket::Set) && self.is_request && !self.is_directive => {
-                Some(Bracket::Call)
-            }
-            b'(' => Some(Bracket::Other),
+            b'(' => Some(self.parenthesis()),
             b'{' if self.innermost.is_none() => Some(Bracket::Set),
             b'{' if self.is_in(Bracket::Set) && self.last != Last::Wanting => Some(Bracket::Set),
             b'{' => Some(Bracket::Object),
             _ => None,
+        }
+    }
+
+    // What a parenthesis opens.
+    fn parenthesis(&self) -> Bracket {
+        let is_defined = self.innermost.is_none() && self.defined == Defined::Directive;
+        if self.is_directive && !is_defined {
+            Bracket::Directive
+        } else if self.is_in(Bracket::Set) && self.is_in_request() {
+            Bracket::Call
+        } else {
+            Bracket::Definitions
         }
     }
 
@@ -311,7 +352,7 @@ impl Walk {
             ..self.at(role)
         };
         if role == Role::Definition {
-            self.is_request = false;
+            self.defined = Defined::Other;
         }
         self.last = if describes {
             Last::Description
@@ -331,9 +372,10 @@ impl Walk {
     }
 }
 
-// What a punctuator that closes nothing is to the token after it.
-fn after_punct(mark: u8) -> Last {
+// What a punctuator that closes nothing, and is this among those before it, is to the token after it.
+fn after_punct(mark: u8, role: Role) -> Last {
     match mark {
+        _ if role == Role::Heading => Last::Heading,
         b'(' | b'[' | b'{' => Last::Opening,
         b'!' => Last::Whole,
         b'@' | b'$' => Last::Sigil,

@@ -1,13 +1,16 @@
-use Rattle.std.proofs.Common.{sym, ◌∙◌}
-use Rattle.std.proofs.lemmas.Bool.{eqb-true}
-use Rattle.graphql_layout.proofs.OneReadings.{told_one_line, told_first, told_second}
+use Rattle.std.proofs.Common.{◌≡◌, false, not, ap, ◌∙◌}
+use Rattle.std.specs.Str.{chars}
+use Rattle.graphql_layout.specs.declared.one_reading.Scan.{Scan}
+use Rattle.graphql_layout.specs.inner.Scans.{scan}
+use Rattle.graphql_layout.proofs.OneReadings.{told_by_lines, told_by_scans}
 use Rattle.graphql_layout.proofs.one_reading.has_one_reading.Goals as goal
 
-pub returns-then-not-first : goal.returns-then-not-first
-returns-then-not-first c = told_first c.args.raw.now c.scan_lines-first.result c.scan_lines-first.ensures c.if-not-first.true
+pub returns-then-not-has_blank_line : goal.returns-then-not-has_blank_line
+returns-then-not-has_blank_line c =
+    let none : c.has_blank_line.result ≡ false = cc in
+    ap not none ∙ told_by_lines c.args.raw.now c.utf8.raw (c.has_blank_line.ensures none)
 
-pub returns-else-not-first : goal.returns-else-not-first
-returns-else-not-first c = told_second c.args.raw.now c.scan_lines-first.result c.scan_lines.result c.scan_lines-first.ensures c.if-not-first.false c.scan_lines.ensures
-
-pub returns-then-is_empty : goal.returns-then-is_empty
-returns-then-is_empty c = told_one_line c.args.raw.now c.split_line.result.0.now c.split_line.result.1.now c.split_line.ensures (eqb-true _ _ (sym c.is_empty.ensures ∙ c.if-is_empty.true))
+pub returns-else-not-has_blank_line : goal.returns-else-not-has_blank_line
+returns-else-not-has_blank_line c =
+    let raw = c.args.raw.now in
+    ap (λ (s : Scan). not s.is_cut) (c.scan_lines-else-not-has_blank_line.ensures ∙ ap (λ (s : Scan). scan s.indent (chars c.args.raw.now)) c.scan_lines.ensures) ∙ told_by_scans c.args.raw.now c.utf8.raw

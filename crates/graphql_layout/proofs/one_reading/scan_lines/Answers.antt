@@ -2,7 +2,7 @@ use Rattle.std.proofs.Common.{[], ◌∷◌, ◌++◌, length, drop, sym, ap, �
 use Rattle.std.proofs.lemmas.Iterator.{YieldsList-from_chars}
 use Rattle.std.proofs.lemmas.Iterator.Consumers.{YieldsList-turn, YieldsList-end}
 use Rattle.std.specs.Str.{chars}
-use Rattle.graphql_layout.specs.texts.OneReading.{scanned}
+use Rattle.graphql_layout.specs.inner.Scans.{scanned}
 use Rattle.graphql_layout.specs.declared.one_reading.Scan.{Scan}
 use Rattle.graphql_layout.proofs.CharLoops.{next_left, none_left}
 use Rattle.graphql_layout.proofs.one_reading.scan_lines.Goals as goal
