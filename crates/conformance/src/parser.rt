@@ -9,7 +9,7 @@ mod sizes;
 mod taken;
 mod views;
 
-pub use answers::{OTHERWISE, Parser, are_alike};
+pub use answers::{OTHERWISE, Parser};
 pub use asked::{limits_of, write_asked};
 pub use budgets::refused_within;
 pub use errors::write_error;
