@@ -7,7 +7,7 @@ GQL and GQLPARSE are the programs, as crates/gql/out/gql and crates/gqlparse/out
 doesn't hold is printed with its file and line, what was expected and what was found; and each table that hasn't as many rows as
 `tests/tables/counts` says. The status is 0 where all rows hold. The notation of the rows is said at crates/conformance/src/rows.rt;
 what each call shows, at its function here."""
-import re, sys, tempfile
+import sys, tempfile
 from concurrent.futures import ProcessPoolExecutor
 from pathlib import Path
 
@@ -19,7 +19,7 @@ from unproved import compiled
 
 TABLES = Path(__file__).resolve().parent / "tables"
 # How many rows a process judges at once.
-AT_ONCE = 40
+AT_ONCE = 10
 
 
 class Row:

@@ -350,6 +350,9 @@ def made_texts(row):
 
 # ---- Spellings
 
+# What stands between two tokens.
+IGNORED = r"(?:[ \t\n\r,\ufeff]|#[^\n\r]*)*"
+
 def in_one_line(text):
     return text.replace("\n", "\\n").replace("\r", "\\r")
 
@@ -362,7 +365,7 @@ def spelled_otherwise(programs, text):
         told = re.match(r"\d+:\d+ (?:punctuator|name|number|string|block string) (.*)", line)
         if told is None:
             break
-        at += len(re.match(r"(?:[ \t\n\r,\ufeff]|#[^\n\r]*)*", text[at:])[0])
+        at += len(re.match(IGNORED, text[at:])[0])
         size = 0
         while len(in_one_line(text[at:at + size])) < len(told[1]) and at + size < len(text):
             size += 1
@@ -464,7 +467,7 @@ def made_findings(programs, _, row):
         counts = Alike(programs, options).judged(group)
         told += "".join(f"otherwise: {text}" for text, count in zip(group, counts) if count is None)
         found += [count for count in counts if count]
-    told += served_otherwise(programs, [text for _, _, text in texts if not re.search("\r(?!\n)", text)])
+    told += served_otherwise(programs, [text for _, _, text in texts if not re.search(f"\r(?!\n)|^{IGNORED}$", text)])
     is_many = len(found) > len(texts) / 2 and sum(found) > 2 * len(found)
     return f"{told}alike, {'many' if is_many else 'few'} in rests"
 
@@ -641,6 +644,99 @@ def json_at_paths(programs, asked, row):
     return found[0] if found[0] == found[1] else " and with places ".join(found)
 
 
+# ---- Sizes
+
+# The errors of `gqlparse` as the tables of parsers have them; `{}` stands for each place.
+ERRORS = {
+    r"syntax error at (.*)": r"syntax \1",
+    r"multiple (\w+) roots in schema definition": r"multiple roots \1 schema {1} pos {0}",
+    r"schema definition is missing query root": r"missing query root pos {0}",
+    r"document contains multiple operations": r"multiple operations anonymous {0} operation {1}",
+    r"(operation|fragment) (\w+) is defined twice": r"\1 \2 duplicated first {1} second {0}",
+    r"document does not contain an operation": r"missing operation",
+    r"recursion limit exceeded\.": r"recursion limit exceeded",
+}
+
+
+def error_told(programs, language, text):
+    """The error of a text that is refused."""
+    ran = subprocess.run([programs.gqlparse, language], input=text.encode(), capture_output=True)
+    error, _, places = ran.stderr.decode().removeprefix("error: ").partition("\nat ")
+    places = [f"{place['line']}:{place['column']}" for place in json.loads(places or "[]")]
+    for pattern, told in ERRORS.items():
+        if re.fullmatch(pattern, error):
+            return re.sub(pattern, told, error).format(*places)
+    return error
+
+
+def counted(before, items):
+    return f"{before}{len(items)}" if len(items) > 1 else ""
+
+
+def length(text):
+    return len(text.encode())
+
+
+def value_size(value):
+    kind = value["kind"]
+    if kind == "StringValue":
+        return f", string of {length(value['value'])}"
+    if kind in ("IntValue", "FloatValue"):
+        is_small = kind == "IntValue" and len(value["value"]) < 30
+        number = int(value["value"]) if is_small else 2**64
+        told = f" with the value {number}" if -(2**63) <= number < 2**63 else " with an unsigned value" if number < 2**64 else ""
+        return f", number of {len(value['value'])}{told}"
+    if kind == "ListValue":
+        return f", list of {len(value['values'])}"
+    return f", object of {len(value['fields'])}" if kind == "ObjectValue" else ", another value"
+
+
+def request_sizes(definitions):
+    operations = [it for it in definitions if it["kind"] == "OperationDefinition"]
+    first = operations[0]
+    selections = first["selectionSet"]["selections"]
+    selection, told = selections[0], "no field"
+    if selection["kind"] == "Field":
+        arguments = selection["arguments"]
+        told = f"name of {length(selection['name']['value'])}{value_size(arguments[0]['value']) if arguments else ''}"
+        told += counted(", arguments ", arguments)
+    told += counted(", directives of it ", selection["directives"]) + counted(", selections ", selections)
+    told += counted(", variables ", first["variableDefinitions"]) + counted(", directives ", first["directives"])
+    return told + counted(", operations ", operations) + counted(", fragments ", definitions[len(operations):])
+
+
+def default_size(values):
+    default = values[0].get("defaultValue") if values else None
+    return value_size(default) if default and default["kind"] in ("ListValue", "ObjectValue") else ""
+
+
+def schema_sizes(definitions):
+    first = definitions[0]
+    told = f"description of {length(first['description']['value'])}, " if "description" in first else ""
+    name = first.get("name") or next(it["type"]["name"] for it in first["operationTypes"] if it["operation"] == "query")
+    told += f"name of {length(name['value'])}" + counted(", directives ", first.get("directives", []))
+    told += counted(", interfaces ", first.get("interfaces", [])) + counted(", fields ", first.get("fields", []))
+    told += counted(", members ", first.get("types", [])) + counted(", values ", first.get("values", []))
+    told += counted(", arguments ", first.get("arguments", []))
+    told += default_size([it for it in first.get("fields", []) if it["kind"] == "InputValueDefinition"] or first.get("arguments", []))
+    for part in [*first.get("fields", []), *first.get("values", [])][:1]:
+        told += counted(", arguments of the first ", part.get("arguments", [])) + default_size(part.get("arguments", []))
+        if part["kind"] != "InputValueDefinition":
+            told += counted(", directives of the first ", part["directives"])
+    return told + counted(", locations ", first.get("locations", [])) + counted(", definitions ", definitions)
+
+
+@one_by_one
+def sizes(programs, asked, text):
+    """Of a tree with huge parts how long its first name, description and argument are, the value of a whole number there, and how long
+    each list of its first definition is that has more than one node. Of a text without a tree its error."""
+    tree = programs.tree(text, f"--{asked[0]}")
+    if tree is None:
+        return error_told(programs, asked[0], text)
+    definitions = json.loads(tree)["definitions"]
+    return (request_sizes if asked[0] == "query" else schema_sizes)(definitions)
+
+
 CALLS = {
     "gql language": language,
     "gql help": help_told,
@@ -658,6 +754,8 @@ CALLS = {
     "run of gql": run_of_gql,
     "run of gqlparse": run_of_gqlparse,
     "report": report_told,
+    "query sizes": lambda programs, _, rows: sizes(programs, ["query"], rows),
+    "schema sizes": lambda programs, _, rows: sizes(programs, ["schema"], rows),
     "json query at paths": lambda programs, _, rows: json_at_paths(programs, ["query"], rows),
     "json schema at paths": lambda programs, _, rows: json_at_paths(programs, ["schema"], rows),
     "json": json_told,

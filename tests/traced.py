@@ -2,7 +2,7 @@
 
 The program is stopped before each call. A call may get another length, as `read at most 2 bytes`, or fail with an error without being
 made. So a disk that is full, a file that nobody may read, and a pipe that breaks in mid-stream are tried without a real one."""
-import ctypes, errno, os, pty, signal, tempfile, tty
+import ctypes, os, pty, signal, tempfile, tty
 
 READ, WRITE, OPEN, PREAD, PWRITE, TRUNCATE = 0, 1, 257, 17, 18, 77
 TRACE_ME, GET_REGISTERS, SET_REGISTERS, GO_ON, SET_OPTIONS = 0, 12, 13, 24, 0x4200
@@ -98,7 +98,9 @@ def begin(words, folder, streams, environment):
 
 def follow(process, faults):
     """Watches a program to its end, and returns its status; None where a signal ended it."""
-    os.waitpid(process, 0)
+    _, status = os.waitpid(process, 0)
+    if not os.WIFSTOPPED(status):
+        raise OSError("the program doesn't start, or may not be traced")
     ask(SET_OPTIONS, process, None, MARK_CALLS | DIE_WITH_TRACER)
     registers, is_inside, error, call, passed_on = Registers(), False, None, None, None
     while True:
@@ -153,6 +155,3 @@ def run(words, folder, given=b"", faults=None, on_terminal=False):
         os.close(end)
         os.close(terminal)
         return status, written, shown
-
-
-BROKEN, FAILED = errno.EPIPE, errno.EIO

@@ -5,7 +5,6 @@ mod asked;
 mod budgets;
 mod errors;
 mod hostile;
-mod sizes;
 mod taken;
 mod views;
 
