@@ -1,5 +1,5 @@
 #!/usr/bin/env python3
-"""Makes docs/MESSAGES.md: each text of the table reports_messages.rows of `conformance` with our messages, which it has,
+"""Makes docs/MESSAGES.md: each text of the table tests/tables/reports_messages.rows with our messages, which it has,
 and the message of graphql-core, the port of GraphQL.js to Python. `tests/messages.py > docs/MESSAGES.md`."""
 import re
 from pathlib import Path
@@ -8,7 +8,7 @@ import graphql
 from graphql.validation import LoneAnonymousOperationRule, UniqueFragmentNamesRule, UniqueOperationNamesRule
 
 ROOT = Path(__file__).resolve().parent.parent
-ROWS = ROOT / "crates/conformance/data/tables/reports_messages.rows"
+ROWS = ROOT / "tests/tables/reports_messages.rows"
 RULES = [UniqueOperationNamesRule, LoneAnonymousOperationRule, UniqueFragmentNamesRule]
 SCHEMA = graphql.build_schema("type Query { a: Int }")
 
@@ -20,7 +20,7 @@ text: it has no limit of depth, reads type definitions too, and asks for no oper
 name and, if it has a place, before [the text's line with a caret](../README.md#try-it). One ends in `(the block string that
 begins at 2:3 is probably not closed)` if nothing closes a block string: then definitions after it may be left out.
 
-`tests/messages.py` makes this page of the tested rows of `reports_messages.rows` in `crates/conformance` and of graphql-core's
+`tests/messages.py` makes this page of the tested rows of `tests/tables/reports_messages.rows` and of graphql-core's
 parser and its three rules on names.'''
 SYNTAX = "syntax error: "
 

@@ -168,7 +168,8 @@ def meant(text):
         count, times, part = match[1].partition("×")
         if not times:
             return chr(int(match[1], 16))
-        return "".join(meant(part).replace("№", str(index)) for index in range(int(count)))
+        part = meant(part)
+        return "".join(part.replace("№", str(index)) for index in range(int(count))) if "№" in part else part * int(count)
     text = re.sub("⟨([^⟩]*)⟩", inside, text)
     return text.translate(str.maketrans("␊␍␉␠", "\n\r\t "))
 

@@ -1,46 +1,35 @@
-//! Texts with the JSON of their trees, and of errors. The JSON was worked out by hand from the syntax trees of GraphQL.js,
-//! version 16.
+//! The JSON of errors, and of a tree that a program built. That of trees is judged by `gql tree`, in `tests/tables.py`.
 //!
 //! In the tables a blank stands after each comma and each colon of the JSON, and nowhere else. Then `@1:2` stands for
 //! `"line": 1, "column": 2`.
-mod inside;
-mod paths;
-
 use crate::errors::named;
 use crate::made::lone_type;
-use crate::parser::{OTHERWISE, Parser, are_alike};
+use crate::parser::{OTHERWISE, Parser};
 use crate::rows::Shown;
-use graphql_json::{Places, error_json, request_json, schema_json};
-use graphql_parser::{Result as Answer, parse_query, parse_schema};
-use inside::{Inside, WHOLE, between};
-use std::alloc::{AllocError, Global};
+use graphql_json::{Places, error_json, schema_json};
+use graphql_parser::{parse_query, parse_schema};
+use std::alloc::AllocError;
 use std::str;
 
 /// The JSON that is asked for so.
 ///
-/// - `query`, `query with places`, `schema`, `schema with places`: the definitions of the `Document` of a text, or its error
-/// - `query at paths`, `schema at paths`: the texts at the paths that stand before the text, with ` in ` between them
-/// - `error`: the error of this name
+/// - `query`, `schema`: that of the error of a text
+/// - `error`: that of the error of this name
 /// - `built`: the definitions of a tree that a program built
-/// - any other: a part of a request
 pub fn answer(shown: &mut Shown, part: &str, text: &str) {
     match part {
-        "query" => write_text(shown, Parser::Query, &WHOLE, text, Places::LeftOut),
-        "query with places" => write_text(shown, Parser::Query, &WHOLE, text, Places::Written),
-        "query at paths" => paths::write_at_paths(shown, Parser::Query, text),
-        "schema" => write_text(shown, Parser::Schema, &WHOLE, text, Places::LeftOut),
-        "schema with places" => write_text(shown, Parser::Schema, &WHOLE, text, Places::Written),
-        "schema at paths" => paths::write_at_paths(shown, Parser::Schema, text),
+        "query" => write_refused(shown, Parser::Query, text),
+        "schema" => write_refused(shown, Parser::Schema, text),
         "error" => write_named(shown, text),
         "built" => write_built(shown, text),
-        part => write_part(shown, part, text),
+        _ => shown.word("no such part"),
     }
 }
 
 fn write_named(shown: &mut Shown, name: &str) {
     let alloc = shown.alloc();
     match named(alloc, name) {
-        Some(error) => write_json(shown, &WHOLE, error_json(alloc, &error)),
+        Some(error) => write_json(shown, error_json(alloc, &error)),
         None => shown.word("no such error"),
     }
 }
@@ -48,53 +37,33 @@ fn write_named(shown: &mut Shown, name: &str) {
 fn write_built(shown: &mut Shown, name: &str) {
     let alloc = shown.alloc();
     match lone_type(alloc, name) {
-        Some(file) => write_json(shown, &WHOLE, schema_json(alloc, &file, Places::Written)),
+        Some(file) => write_json(shown, schema_json(alloc, &file, Places::Written)),
         None => shown.leave_out(),
     }
 }
 
-// Writes the JSON of a part of a request.
-fn write_part(shown: &mut Shown, part: &str, text: &str) {
-    let Some(around) = Inside::of_part(part) else {
-        shown.word("no such part");
-        return;
-    };
-    let mut request = Shown::new(shown.alloc(), true);
-    request.word(around.before);
-    request.word(text);
-    request.word(around.after);
-    let text = request.whole().unwrap_or("");
-    write_text(shown, Parser::Query, &around, text, Places::LeftOut);
-}
-
-// Writes the JSON of a text's tree, but for what stands around a part of it, or that of its error.
-fn write_text(shown: &mut Shown, language: Parser, around: &Inside, text: &str, places: Places) {
+// Writes the JSON of a text's error.
+fn write_refused(shown: &mut Shown, language: Parser, text: &str) {
     let alloc = shown.alloc();
-    let answer = json_of(alloc, language, text, places);
-    if !are_alike(&answer, &language.checked(alloc, text)) {
+    let error = match language {
+        Parser::Query => parse_query(alloc, text).err(),
+        Parser::Schema => parse_schema(alloc, text).err(),
+    };
+    if error != language.checked(alloc, text).err() {
         return shown.word(OTHERWISE);
     }
-    match answer {
-        Ok(json) => write_json(shown, around, Ok(json)),
-        Err(error) => write_json(shown, around, error_json(alloc, &error)),
+    match &error {
+        Some(error) => write_json(shown, error_json(alloc, error)),
+        None => shown.word("accepted"),
     }
 }
 
-// The JSON of a text's tree.
-fn json_of(alloc: Global, language: Parser, text: &str, places: Places) -> Answer<Vec<u8>> {
-    Ok(match language {
-        Parser::Query => request_json(alloc, &parse_query(alloc, text)?, places)?,
-        Parser::Schema => schema_json(alloc, &parse_schema(alloc, text)?, places)?,
-    })
-}
-
-// Writes the definitions in this JSON as the rows do, but for what stands around a part of them.
-fn write_json(shown: &mut Shown, around: &Inside, json: Result<Vec<u8>, AllocError>) {
+// Writes this JSON as the rows do; of a document only its definitions.
+fn write_json(shown: &mut Shown, json: Result<Vec<u8>, AllocError>) {
     match json {
         Ok(json) => {
-            let json = text_of(&json);
+            let json = str::from_utf8(json.as_slice()).unwrap_or("no UTF-8");
             let json = between(json, "{\"kind\":\"Document\",\"definitions\":[", "]}");
-            let json = between(json, around.json_before, around.json_after);
             let mut spaced = Shown::new(shown.alloc(), true);
             write_spaced(&mut spaced, json);
             write_places(shown, spaced.whole().unwrap_or(""));
@@ -103,9 +72,12 @@ fn write_json(shown: &mut Shown, around: &Inside, json: Result<Vec<u8>, AllocErr
     }
 }
 
-// The JSON as text.
-fn text_of(json: &Vec<u8>) -> &str {
-    str::from_utf8(json.as_slice()).unwrap_or("no UTF-8")
+// What stands between these two; all of the text where they don't stand at its ends.
+fn between<'a>(text: &'a str, before: &str, after: &str) -> &'a str {
+    match text.strip_prefix(before) {
+        Some(rest) => rest.strip_suffix(after).unwrap_or(text),
+        None => text,
+    }
 }
 
 // Writes JSON with a blank after each comma and each colon that stands in no string.

@@ -1,19 +1,18 @@
 //! Tables of cases with expected answers: tokens, values, requests and schema files, what the calls of their trees and
 //! of their errors give, their JSON, what they are minified and formatted to, what their trees are printed as, the
-//! reports of refused texts, positions and edits, what an editor asks of a text, what `gql` makes of a
-//! text in parts, runs of `gql` and `gqlparse`, and calls that run out of memory. The answers were worked out by hand
-//! from the rules of `docs/GRAMMAR.md`, from `gql --help` and the Language Server Protocol 3.17, or come from where a
-//! table says, and were never taken from what the crates print: only the digest of a workload was, which has to stay.
+//! places where reading goes on after a mistake, positions and edits, what an editor asks of a text, and calls that
+//! run out of memory. The answers were worked out by hand from the rules of `docs/GRAMMAR.md` and the Language Server
+//! Protocol 3.17, or come from where a table says, and were never taken from what the crates print: only the digest
+//! of a workload was, which has to stay. What the programs `gql` and `gqlparse` print is judged by `tests/tables.py`.
 //!
-//! The tables are the files of `data/tables`, `data/runs` and, for the module `refused`, `data/refused`, in the
-//! notation of the module `rows`. The program prints how many rows each has, and the rows that do not hold: the file
-//! `stdout` has the counts, and no such row. So a new row is a line of a table, and counts there. Words of the program
-//! name the tables to judge; those that begin with `once` or `bench` are for the modules `refused` and `bench`, of which
-//! the last measures.
+//! The tables are the files of `data/tables` and, for the module `refused`, `data/refused`, in the notation of the
+//! module `rows`. The program prints how many rows each has, and the rows that do not hold: the file `stdout` has the
+//! counts, and no such row. So a new row is a line of a table, and counts there. Words of the program name the tables
+//! to judge; those that begin with `once` or `bench` are for the modules `refused` and `bench`, of which the last
+//! measures.
 #![tactic(auto)]
 
 mod bench;
-mod commands;
 mod compared;
 mod errors;
 mod example;
@@ -25,6 +24,7 @@ mod parts;
 mod printed;
 mod random;
 mod readme;
+mod recovery;
 mod refused;
 mod reports;
 mod rewritten;
@@ -36,28 +36,28 @@ use parser::Parser;
 use rewritten::Rewriting;
 use rows::{Shown, ended, judge, pair};
 use std::test::Fail;
-use std::{env, fs, io};
+use std::{env, io};
 
 /// What the rows of a folder are about.
 #[derive(Clone, Copy)]
-pub enum Subject<'a> {
-    /// Calls of the libraries, and of `gql` over the files that are listed here.
-    Calls { sources: &'a str },
+pub enum Subject {
+    /// Calls of the libraries.
+    Calls,
     /// Calls at the end of memory, if it has one.
     Refused { has_end: bool },
 }
 
-impl Subject<'_> {
+impl Subject {
     /// Writes what the call of this name makes of a text.
     pub fn answer(self, shown: &mut Shown, call: &str, text: &str) {
         match self {
-            Subject::Calls { sources } => answer(shown, sources, call, text),
+            Subject::Calls => answer(shown, call, text),
             Subject::Refused { has_end } => refused::answer(shown, has_end, call, text),
         }
     }
 }
 
-fn answer(shown: &mut Shown, sources: &str, call: &str, text: &str) {
+fn answer(shown: &mut Shown, call: &str, text: &str) {
     match pair(call, " ") {
         ("minified", asked) => rewritten::answer(shown, Rewriting::Minified, asked, text),
         ("formatted", asked) => rewritten::answer(shown, Rewriting::Formatted, asked, text),
@@ -68,7 +68,6 @@ fn answer(shown: &mut Shown, sources: &str, call: &str, text: &str) {
         ("schema", asked) => parser::write_asked(shown, Parser::Schema, asked, text),
         ("error", part) => errors::write_part(shown, part, text),
         ("json", part) => json::answer(shown, part, text),
-        ("report", limits) => reports::of_text(shown, limits, text),
         ("front", limits) => reports::front(shown, limits, text),
         ("exact", what) => reports::exact(shown, what, text),
         ("made", what) => made::write_made(shown, what, text),
@@ -76,8 +75,7 @@ fn answer(shown: &mut Shown, sources: &str, call: &str, text: &str) {
         ("example", limit) => example::write_checked(shown, limit, text),
         ("readme", example) => readme::write_example(shown, example, text),
         ("bench", what) => bench::write_digest(shown, what, text),
-        ("gql", part) => commands::answer(shown, sources, part, text),
-        ("run", program) => commands::write_run(shown, sources, program, text),
+        ("gql", part) => recovery::answer(shown, part, text),
         _ => parts::answer(shown, call, text),
     }
 }
@@ -107,14 +105,7 @@ fn write_words(rt: &HostRuntime, words: &mut Shown) -> io::Result<()> {
 }
 
 fn judge_all(rt: &HostRuntime, words: &str) -> Result<(), Fail> {
-    let sources = fs::read_to_string(rt, "sources")?;
-    judge_folders(rt, words, sources.as_str())
-}
-
-fn judge_folders(rt: &HostRuntime, words: &str, sources: &str) -> Result<(), Fail> {
-    let subject = Subject::Calls { sources };
-    let of_tables = judge(rt, words, "tables", subject)?;
-    let of_runs = judge(rt, words, "runs", subject)?;
+    let of_tables = judge(rt, words, "tables", Subject::Calls)?;
     let of_refused = refused::judge_rows(rt, words)?;
-    ended(of_tables.saturating_add(of_runs).saturating_add(of_refused))
+    ended(of_tables.saturating_add(of_refused))
 }

@@ -5,11 +5,10 @@ mod asked;
 mod budgets;
 mod errors;
 mod hostile;
-mod sizes;
 mod taken;
 mod views;
 
-pub use answers::{OTHERWISE, Parser, are_alike};
+pub use answers::{OTHERWISE, Parser};
 pub use asked::{limits_of, write_asked};
 pub use budgets::refused_within;
 pub use errors::write_error;

@@ -21,8 +21,6 @@
 //!
 //! A table with a line that is only `⇒` is one row: the text stands before the last of these lines, as it is, and what the
 //! call makes of it after that, over as many lines as it takes.
-//!
-//! A table whose call begins with `run of` has runs of a program, as `commands::runs` has them.
 mod notation;
 mod shown;
 mod tables;

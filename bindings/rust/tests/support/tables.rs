@@ -15,7 +15,13 @@ pub fn path(inside: &str) -> PathBuf {
 /// All texts of the tables, and what their files hold besides.
 pub fn texts() -> Vec<String> {
     let mut texts = Vec::new();
-    for file in files(&path("crates/conformance/data/tables")) {
+    let of_programs = files(&path("tests/tables"))
+        .into_iter()
+        .filter(|file| file.extension().is_some_and(|end| end == "rows"));
+    for file in files(&path("crates/conformance/data/tables"))
+        .into_iter()
+        .chain(of_programs)
+    {
         for table in fs::read_to_string(file).unwrap().split("\n== ") {
             let (_, inside) = table.split_once('\n').unwrap();
             texts.extend(rows(inside));

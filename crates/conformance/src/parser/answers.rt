@@ -116,8 +116,8 @@ impl Parser {
     }
 }
 
-/// Whether a check answers as the parser: both accept, or both give the same error.
-pub fn are_alike<T>(answer: &Answer<T>, checked: &Answer<()>) -> bool {
+// Whether a check answers as the parser: both accept, or both give the same error.
+fn are_alike<T>(answer: &Answer<T>, checked: &Answer<()>) -> bool {
     match (answer, checked) {
         (Ok(_), Ok(())) => true,
         (Err(error), Err(other)) => error == other,

@@ -1,5 +1,4 @@
 //! What the calls of a tree give, as text.
-use super::sizes::{write_file_sizes, write_request_sizes};
 use crate::rows::Shown;
 use crate::trees::{Written, write_default_value, write_directives, write_value};
 use graphql_parser::types::{
@@ -10,10 +9,8 @@ use graphql_parser::value::{ConstValue, Name, Value, ValueView};
 use graphql_parser::{Positioned, parse_query};
 use std::alloc::{AllocError, Global};
 
-/// What is looked at in a tree, beside the whole tree and whether there is one. Of a schema file only its sizes are.
+/// What is looked at in the tree of a request, beside the whole tree and whether there is one.
 ///
-/// - `sizes`: how long the first name and the first description or argument are, the value of a whole number there, and how
-///   long each list of the first definition is that has more than one node
 /// - `argument`: the argument of a name in the first field, in its first directive, and in that as one without variables
 /// - `response key`: the key of the first field in a response
 /// - `defaults`: the defaults of the variables of the first operation: `lent` where the request writes them, `made` where the
@@ -29,8 +26,7 @@ use std::alloc::{AllocError, Global};
 ///   another value
 /// - `viewed`: the first argument through its view, and the same of it as a value without variables
 /// - `field viewed`: the field of a name in the first argument, through its view
-pub const VIEWS: [&str; 14] = [
-    "sizes",
+pub const VIEWS: [&str; 13] = [
     "argument",
     "response key",
     "defaults",
@@ -56,7 +52,6 @@ impl Document for ServiceDocument {
     fn write_view(&self, shown: &mut Shown, view: &str, _asked: &str) {
         match view {
             "whole" => self.write(shown),
-            "sizes" => write_file_sizes(shown, self),
             _ => shown.word("accepted"),
         }
     }
@@ -67,7 +62,6 @@ impl Document for ExecutableDocument {
         match view {
             "whole" => self.write(shown),
             "accepted" => shown.word("accepted"),
-            "sizes" => write_request_sizes(shown, self),
             "operations" => write_operations(shown, self.operations.iter()),
             "named" => write_named_twice(shown, asked, self),
             _ => {

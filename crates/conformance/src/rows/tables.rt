@@ -12,12 +12,7 @@ const GOES_ON: &str = "\u{B}";
 /// doesn't hold, with its file and line, what was expected and what was found. Returns how many rows don't hold.
 ///
 /// The program's words name the files to judge, as `tokens` for `tables/tokens.rows`; without any, all are judged.
-pub fn judge(
-    rt: &HostRuntime,
-    words: &str,
-    folder: &str,
-    subject: Subject<'_>,
-) -> Result<usize, Fail> {
+pub fn judge(rt: &HostRuntime, words: &str, folder: &str, subject: Subject) -> Result<usize, Fail> {
     let mut wrong = 0usize;
     for file in &files_in(rt, words, folder)? {
         wrong = wrong.saturating_add(judge_file(rt, subject, file.as_str())?);
@@ -70,7 +65,7 @@ fn is_asked_for(words: &str, name: &str) -> bool {
 }
 
 // Judges a file, and returns how many of its rows don't hold.
-fn judge_file(rt: &HostRuntime, subject: Subject<'_>, file: &str) -> Result<usize, Fail> {
+fn judge_file(rt: &HostRuntime, subject: Subject, file: &str) -> Result<usize, Fail> {
     let text = fs::read_to_string(rt, file)?;
     let mut judged = Judged::new(rt, subject, file);
     for table in text.as_str().split("\n== ") {
@@ -83,7 +78,7 @@ fn judge_file(rt: &HostRuntime, subject: Subject<'_>, file: &str) -> Result<usiz
 // A file that is judged, and what is printed of it.
 #[derive(Drop)]
 struct Judged<'a> {
-    subject: Subject<'a>,
+    subject: Subject,
     file: &'a str,
     report: Shown,
     // How many lines were gone over, on which of them the row begins, how many rows of the table were judged, and how
@@ -100,7 +95,7 @@ struct Judged<'a> {
 }
 
 impl<'a> Judged<'a> {
-    fn new(rt: &HostRuntime, subject: Subject<'a>, file: &'a str) -> Judged<'a> {
+    fn new(rt: &HostRuntime, subject: Subject, file: &'a str) -> Judged<'a> {
         let alloc = rt.alloc();
         Judged {
             subject,
@@ -128,8 +123,6 @@ impl<'a> Judged<'a> {
             write_wanted(&mut self.wanted, &mut self.found, answer);
             self.judge(call);
             self.pass_lines(rows.split('\n').count());
-        } else if call.starts_with("run of ") {
-            self.judge_runs(call, rows);
         } else {
             self.judge_rows(call, rows);
         }
@@ -142,22 +135,6 @@ impl<'a> Judged<'a> {
 
     fn pass_lines(&mut self, count: usize) {
         self.line = self.line.saturating_add(count);
-    }
-
-    // Judges runs of a program, which have an empty line between two: the same is made again of each.
-    fn judge_runs(&mut self, call: &str, runs: &str) {
-        for run in runs.trim_ascii_end().split("\n\n") {
-            self.first = self.line.saturating_add(1);
-            if call == "run of gql" {
-                write_meant(&mut self.text, run);
-                write_meant(&mut self.wanted, run);
-            } else {
-                self.text.word(run);
-                self.wanted.word(run);
-            }
-            self.judge(call);
-            self.pass_lines(run.split('\n').count().saturating_add(1));
-        }
     }
 
     // Judges rows, of which each begins in a line of its own and goes on in those that begin with two blanks.

@@ -4,12 +4,12 @@ use crate::trees::parts::{
     write_arguments, write_default, write_directives, write_node, write_places,
 };
 use crate::trees::values::Written;
+use graphql_syntax::pos::{Pos, Positioned};
+use graphql_syntax::types::Directive;
 use graphql_trees::{
     DocumentOperations, ExecutableDocument, Field, InlineFragment, OperationDefinition, Selection,
     SelectionSet, TypeCondition, VariableDefinition,
 };
-use graphql_syntax::pos::{Pos, Positioned};
-use graphql_syntax::types::Directive;
 use std::borrow::Cow;
 
 /// The tree of a request: its operations, and then its fragments, each after its name.

@@ -2,12 +2,12 @@
 use crate::rows::Shown;
 use crate::trees::parts::{write_default, write_directives, write_node};
 use crate::trees::values::Written;
+use graphql_syntax::pos::Positioned;
+use graphql_syntax::value::Name;
 use graphql_trees::{
     DirectiveDefinition, FieldDefinition, InputValueDefinition, SchemaDefinition, ServiceDocument,
     TypeDefinition, TypeKind, TypeSystemDefinition,
 };
-use graphql_syntax::pos::Positioned;
-use graphql_syntax::value::Name;
 
 /// The tree of a schema file: its definitions in order, after the word `file`.
 impl Written for ServiceDocument {
