@@ -159,8 +159,15 @@ impl Outbox {
             && self.bytes.extend_from_slice(content).is_ok()
     }
 
-    /// Answers a request by an error ("ResponseError").
+    /// Answers a request by an error, or, if there is no memory for that one, by one that says so.
     pub fn refuse(&mut self, id: Id<'_>, failure: Failure<'_>) {
+        if !self.send_error(id, failure) {
+            let _ = self.send_error(id, Failure::OutOfMemory);
+        }
+    }
+
+    // Answers a request by an error ("ResponseError"). Whether there was memory for it.
+    fn send_error(&mut self, id: Id<'_>, failure: Failure<'_>) -> bool {
         let (code, _) = failure.row();
         self.is_short = self.is_short || failure.is_of_memory();
         let mut json = self.begun();
@@ -171,7 +178,7 @@ impl Outbox {
         failure.write(&mut json);
         json.said_member("message");
         json.end_object();
-        let _ = self.send(json);
+        self.send(json)
     }
 
     // A notification that begins, whose parameters come next ("Notification Message").
