@@ -264,12 +264,12 @@ impl<'v, 'a> Reading<'v, 'a> {
     }
 
     /// The items of a list.
-    pub fn items(&mut self, list: Member<'v, 'a>) -> &'v [Value<'a>] {
+    pub fn items(&mut self, list: Member<'v, 'a>) -> Option<&'v [Value<'a>]> {
         match list.items() {
-            Ok(items) => items,
+            Ok(items) => Some(items),
             Err(fault) => {
                 self.note(fault);
-                &[]
+                None
             }
         }
     }

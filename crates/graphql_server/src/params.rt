@@ -211,7 +211,10 @@ fn kinds_of(reading: &mut Reading<'_, '_>) -> SymbolKinds {
         return SymbolKinds::first();
     };
     let mut kinds = SymbolKinds::none();
-    for (index, value) in reading.items(list).iter().enumerate() {
+    let Some(items) = reading.items(list) else {
+        return kinds;
+    };
+    for (index, value) in items.iter().enumerate() {
         if let Some(kind) = reading.taken(list.item(index, value).size()) {
             kinds.add(kind);
         }
