@@ -3,6 +3,8 @@
 
 tests/server.py quick [NAME..] tries the dialogues of these names, or all, at once and without a proof or a built program, by `rt try`.
 
+tests/server.py refused N.. tries all of them so where the Nth request for memory is refused, for each of these N: minutes for each.
+
 GQL is the program, as crates/gql/out/gql. Without a PART all are tried:
   dialogues  each file of tests/dialogues: message by message, byte by byte, at once, and if its name begins with cut_ in two pieces, cut
              at each byte after the first message. ONLY=NAME,NAME in the environment tries these alone
@@ -13,7 +15,7 @@ GQL is the program, as crates/gql/out/gql. Without a PART all are tried:
   changes    100,000 changes of a text of 100 KB (CHANGES=N for others), and what memory the server takes meanwhile
   closed     200 texts of 1 MB opened and closed: nothing is kept of them
   times      from a key stroke to its diagnostics, for texts of 100 KB and 2 MB with one mistake
-  costs      what an outline and queued changes cost in key strokes
+  costs      what an outline and many changes cost in key strokes, and that an answer doesn't wait for later ones
 The status is 0 where all is as it has to be. Times are printed, and judged by the reader."""
 import fcntl, json, os, queue, random, re, statistics, struct, subprocess, sys, tempfile, termios, threading, time
 from pathlib import Path
@@ -160,6 +162,7 @@ def ranged(start, end, text):
 # Messages after > and < have the member "jsonrpc": "2.0" too, which isn't written. In JSON, but in no string, @0:12 is the position of
 # line 0 and character 12, and @0:12-1:0 a range. In what the server writes a string that ends in … is any that begins so: the protocol
 # leaves the words of most messages to the server. All else has to be the same value: the order of members doesn't count, and each counts.
+# %FILES% is the URI of tests/dialogues/files, and %PATH% its path.
 # Signs for characters that are not seen, and for many of them, are those of the crate rows.
 
 def meant(text):
@@ -192,6 +195,8 @@ def dialogue(file):
     """The turns of a dialogue: the bytes that are sent, whether the input ends, and the messages that are to come, each with whether it
     comes also if the next message has arrived; and the status."""
     text = re.sub(r"(?m)^\+ (.*)\n", lambda part: (DIALOGUES / "parts" / part[1]).read_text(), file.read_text())
+    files = (DIALOGUES / "files").as_uri()
+    text = text.replace("%FILES%", files).replace("%PATH%", files.removeprefix("file://"))
     turns, status = [], None
     for line in text.replace("\n  ", " ").split("\n"):
         sign, _, rest = line.partition(" ")
@@ -321,27 +326,69 @@ def messages_in(written):
     return found
 
 
-def quick(names):
-    """Plays dialogues at once, each to a server that `rt try` runs. Prints those that don't hold. Returns how many these are."""
+def tried(names, *words):
+    """Plays dialogues of these names, or all, at once, each to a server that `rt try` runs with these words. Gives of each the name, what
+    it has to write and its status, and what it wrote and its status."""
     asked = [it for it in dialogues() if not names or it[0] in names]
     with tempfile.TemporaryDirectory() as folder:
         for name, turns, _ in asked:
             Path(folder, name).write_bytes(b"".join(sent for sent, _, _ in turns))
-        words = ["rt", "try", "--seconds", "900", "--cases", folder, "--", "lsp"]
-        ran = subprocess.run(words, cwd=DIALOGUES.parent.parent / "crates/gql", capture_output=True)
+        ran = subprocess.run(["rt", "try", "--seconds", "900", *words, "--cases", folder, "--", "lsp"],
+                             cwd=DIALOGUES.parent.parent / "crates/gql", capture_output=True)
     said = ran.stderr.decode(errors="replace")
     statuses = {name: int(status) for name, status in re.findall(r"^case=(\S+) run=ended status=(\d+)", said, re.M)}
     parts = re.split(rb"^== (\w+)\n", ran.stdout, flags=re.M)
     written = {name.decode(): out for name, out in zip(parts[1::2], parts[2::2])}
     if not statuses:
         print(said[-2000:])
-    wrong = 0
     for name, turns, ended in asked:
         wanted = [[each for _, _, messages in turns for each, is_sure in messages if is_sure], 1 if ended is None else ended]
-        found = [messages_in(written.get(name, b"").removesuffix(b"\n")), statuses.get(name)]
+        yield name, wanted, [messages_in(written.get(name, b"").removesuffix(b"\n")), statuses.get(name)]
+
+
+def quick(names):
+    """Plays dialogues of these names, or all. Prints those that don't hold. Returns how many these are."""
+    wrong = 0
+    for name, wanted, found in tried(names):
         if not is_like(found, wanted):
             wrong += 1
             print(f"tests/dialogues/{name}:\n  expected: {json.dumps(wanted, ensure_ascii=False)}\n  found:    {json.dumps(found, ensure_ascii=False)}")
+    return wrong
+
+
+def is_refused(found, wanted):
+    """Whether a server whose memory ran out once wrote this in place of that: each request has an answer, where one may be an error
+    that says so, with the id or, if the content wasn't read, without; and once the session runs it is logged once."""
+    (written, status), (expected, ended) = found, wanted
+    if not all(isinstance(each, dict) for each in written) or status not in (ended, 1):
+        return False
+    short = [each for each in written if each.get("error", {}).get("code") == -32603]
+    left = [each["id"] for each in written if "id" in each and each not in short]
+    missing = [each["id"] for each in expected if "id" in each]
+    for each in left:
+        if each not in missing:
+            return False
+        missing.remove(each)
+    logs = [each for each in written if each.get("method") == "window/logMessage" and each["params"]["message"].endswith("out of memory")]
+    is_running = any("capabilities" in (each.get("result") or {}) for each in written)
+    return len(short) <= 1 and len(missing) <= len(short) and len(logs) == is_running
+
+
+def refused(numbers):
+    """Plays all dialogues for each of these numbers N, where the Nth request for memory of each server is refused. Prints those where a
+    request has no answer, or it isn't logged once. Returns how many these are."""
+    wrong = 0
+    for nth in numbers:
+        played = list(tried([], "--fail-alloc", nth))
+        # If there is no memory for what was read, all of it is lost, and here that is the whole dialogue.
+        met = [it for it in played if not is_like(it[2], it[1]) and it[2][0]]
+        lost = len([it for it in played if not it[2][0]])
+        for name, wanted, found in met:
+            if not is_refused(found, wanted):
+                wrong += 1
+                print(f"tests/dialogues/{name}, request {nth}:\n  expected: {json.dumps(wanted, ensure_ascii=False)}\n"
+                      f"  found:    {json.dumps(found, ensure_ascii=False)}")
+        print(f"request {nth} refused: of {len(played)} dialogues {len(met)} differ, {lost} are lost whole")
     return wrong
 
 
@@ -620,10 +667,24 @@ def try_costs(program, rounds=50):
     stroke = middle(lambda each: [change(each, key(each))])
     outline = middle(lambda each: [message(id=1, method="textDocument/documentSymbol", params=asked)])
     queued, number = cost(*[change(each, key(each)) for each in range(100)])
+    lines = [line for line, each in enumerate(text.split("\n")) if each][:1000]
+    upwards, _ = cost(change(1, *[ranged((line, 0), (line, 0), " ") for line in reversed(lines)]))
+    downwards, _ = cost(change(2, *[ranged((line, 0), (line, 1), "") for line in lines]))
     print(f"costs: a key stroke {stroke * 1000:.2f} ms of the processor, an outline {outline / stroke:.1f} key strokes (wanted: 2), "
-          f"100 queued changes {queued / stroke:.1f}")
+          f"100 queued changes {queued / stroke:.1f}, {len(lines)} changes of a notification {upwards / stroke:.1f} from the last line to the "
+          f"first, {downwards / stroke:.1f} the other way (wanted: 3)")
     if number != 1:
         sys.exit(f"costs: of 100 queued changes {number} are published")
+    began = time.perf_counter()
+    server.send(b"".join(message(id=each, method="textDocument/documentSymbol", params=asked) for each in range(100)))
+    server.next()
+    first = time.perf_counter() - began
+    while server.next()["id"] != 99:
+        pass
+    last = time.perf_counter() - began
+    print(f"costs: of 100 outlines that are asked for at once the first comes after {first * 1000:.1f} ms, the last after {last * 1000:.0f}")
+    if first > last / 4:
+        sys.exit("costs: the first answer waits for later ones")
     server.end()
 
 
@@ -634,6 +695,8 @@ PARTS = {"dialogues": try_dialogues, "pieces": try_pieces, "garbage": try_garbag
 def main():
     if sys.argv[1:2] == ["quick"]:
         sys.exit(quick(sys.argv[2:]) > 0)
+    if sys.argv[1:2] == ["refused"]:
+        sys.exit(refused(sys.argv[2:]) > 0)
     if len(sys.argv) < 2 or not set(sys.argv[2:]) <= PARTS.keys():
         sys.exit(__doc__)
     for part in sys.argv[2:] or PARTS:

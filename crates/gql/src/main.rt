@@ -9,13 +9,15 @@
 //! What else it prints is tested.
 #![tactic(auto)]
 
-use graphql_commands::texts::Disk;
+use graphql_commands::texts::{Disk, Texts};
 use graphql_commands::{Style, is_server, run};
 use graphql_server::Server;
+use graphql_server::files::{Files, Unread};
+use std::alloc::Global;
 use std::env::VarError;
 use std::io::{ErrorKind, IsTerminal, Read, Write};
 use std::process::ExitCode;
-use std::{env, io};
+use std::{env, fs, io};
 
 fn main(rt: HostRuntime) -> ExitCode {
     let alloc = rt.alloc();
@@ -43,30 +45,67 @@ const PART: usize = 65536;
 
 // Is a language server for the client at standard input and output until it says `exit`, or one of them ends; gives the exit status.
 fn serve(rt: &HostRuntime) -> u8 {
-    let alloc = rt.alloc();
     let mut input = rt.stdin();
-    let mut output = rt.stdout();
-    let mut server = Server::new(alloc);
+    let mut server = Server::new(rt.alloc());
     let mut part = [0u8; PART];
     for _ in 0..u64::MAX {
         match input.read(&mut part) {
             Ok(0) => server.end(),
             Ok(length) => {
-                // Where memory runs out, what has an answer is sent, and the server goes on.
-                let _ = server.receive(part.get(..length).unwrap_or(&[]));
+                server.receive(part.get(..length).unwrap_or(&[]));
+                answer(rt, &mut server);
             }
             Err(error) if error.kind() == ErrorKind::Interrupted => {}
             Err(_) => server.end(),
         }
-        if output.write_all(server.output()).is_err() || output.flush().is_err() {
-            server.end();
-        }
         if let Some(status) = server.has_ended() {
             return status;
         }
-        server.clear();
     }
     1
+}
+
+// Does what the messages that are whole ask for, and sends the answer to each before the next one is read.
+fn answer(rt: &HostRuntime, server: &mut Server) {
+    let mut output = rt.stdout();
+    let mut files = ClosedFiles { rt };
+    for _ in 0..u64::MAX {
+        let is_more = server.next(&mut files);
+        let bytes = server.output();
+        if !bytes.is_empty() {
+            if output.write_all(bytes).is_err() || output.flush().is_err() {
+                server.end();
+            }
+            server.clear();
+        }
+        if !is_more {
+            return;
+        }
+    }
+}
+
+// The files of the machine, for texts that an editor asks about and has not open.
+#[derive(Drop)]
+struct ClosedFiles<'a> {
+    rt: &'a HostRuntime,
+}
+
+impl Files for ClosedFiles<'_> {
+    fn text(&mut self, alloc: Global, path: &str) -> Result<String, Unread> {
+        if let Ok(metadata) = fs::metadata(self.rt, path)
+            && !metadata.is_file()
+        {
+            // A pipe might never end.
+            return Err(Unread::Because("cannot be read: not a regular file"));
+        }
+        match (Disk { rt: self.rt }).text(alloc, path) {
+            Ok(text) => Ok(text),
+            Err(why) => Err(match why.words() {
+                Some(words) => Unread::Because(words),
+                None => Unread::NoMemory,
+            }),
+        }
+    }
 }
 
 // The arguments without the program's name.

@@ -1,9 +1,11 @@
 //! The language server of `gql lsp`, over bytes in and out (Language Server Protocol 3.17).
 //!
-//! [`Server::receive`] takes the bytes that a client sent, in whatever parts they arrive, and [`Server::output`] is what is sent back.
+//! [`Server::receive`] takes the bytes that a client sent, in whatever parts they arrive, [`Server::next`] does what the next message
+//! asks for, and [`Server::output`] is what is sent back.
 //! The modules have its parts: messages are cut from the bytes ([`framing`]). What each is ([`messages`], [`methods`]) and its
 //! parameters ([`params`]) are found in the JSON by the paths of its members ([`members`]), and what is sent ([`answers`]) is written
-//! value by value ([`writer`]). A session ([`session`]) keeps the open texts ([`texts`]) and answers each request ([`results`]), about
+//! value by value ([`writer`]). A session ([`session`]) keeps the open texts ([`texts`]), reads others from their files ([`files`]) and
+//! answers each request ([`results`]), about
 //! diagnostics ([`diagnostics`]), quick fixes ([`fixes`]), the outline ([`outline`]), folding and selection ranges ([`folding`],
 //! [`selection`]), names ([`navigation`]) and layout ([`formatting`], [`differences`]); what it can do is told at the beginning
 //! ([`capabilities`]), and what it sends is what the client can take ([`client`]).
@@ -18,6 +20,7 @@ pub mod capabilities;
 pub mod client;
 pub mod diagnostics;
 pub mod differences;
+pub mod files;
 pub mod fixes;
 pub mod folding;
 pub mod formatting;

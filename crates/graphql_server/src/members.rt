@@ -2,6 +2,7 @@
 
 use crate::writer::JsonWriter;
 use json::Value;
+use text_edits::Position;
 
 /// What is wrong with a member.
 #[derive(Clone, Copy)]
@@ -112,6 +113,11 @@ impl<'v, 'a> Member<'v, 'a> {
         }
     }
 
+    /// The text at a path.
+    pub fn text_at(self, path: &'static str) -> Result<&'a str, Fault> {
+        self.at(path)?.text()
+    }
+
     fn fault(self, wrong: Wrong) -> Fault {
         Fault {
             item: self.item,
@@ -193,6 +199,151 @@ impl<'v, 'a> Member<'v, 'a> {
             }
         }
         Ok(first)
+    }
+}
+
+/// Members that are read one after another. The first one that is wrong is remembered, and something stands for each that is.
+#[derive(Clone, Copy)]
+pub struct Reading<'v, 'a> {
+    member: Member<'v, 'a>,
+    fault: Option<Fault>,
+}
+
+impl<'v, 'a> Reading<'v, 'a> {
+    /// Of this message or item nothing is read yet.
+    pub fn of(member: Member<'v, 'a>) -> Reading<'v, 'a> {
+        Reading {
+            member,
+            fault: None,
+        }
+    }
+
+    /// Fails with the first member that is wrong.
+    pub fn check(self) -> Result<(), Fault> {
+        match self.fault {
+            None => Ok(()),
+            Some(fault) => Err(fault),
+        }
+    }
+
+    /// What was read, unless it is wrong.
+    pub fn taken<T: Copy>(&mut self, read: Result<T, Fault>) -> Option<T> {
+        match read {
+            Ok(value) => Some(value),
+            Err(fault) => {
+                self.note(fault);
+                None
+            }
+        }
+    }
+
+    fn note(&mut self, fault: Fault) {
+        self.fault = self.fault.or(Some(fault));
+    }
+
+    /// The member at a path.
+    pub fn member(&mut self, path: &'static str) -> Option<Member<'v, 'a>> {
+        match self.member.at(path) {
+            Ok(member) => Some(member),
+            Err(fault) => {
+                self.note(fault);
+                None
+            }
+        }
+    }
+
+    /// The member at a path, if it is there and not null.
+    pub fn optional(&mut self, path: &'static str) -> Option<Member<'v, 'a>> {
+        match self.member.get(path) {
+            Ok(member) => member,
+            Err(fault) => {
+                self.note(fault);
+                None
+            }
+        }
+    }
+
+    /// The items of a list.
+    pub fn items(&mut self, list: Member<'v, 'a>) -> Option<&'v [Value<'a>]> {
+        match list.items() {
+            Ok(items) => Some(items),
+            Err(fault) => {
+                self.note(fault);
+                None
+            }
+        }
+    }
+
+    pub fn text(&mut self, path: &'static str) -> &'a str {
+        let read = self.member.text_at(path);
+        self.taken(read).unwrap_or("")
+    }
+
+    /// The text at a path, and an empty one if none is there.
+    pub fn optional_text(&mut self, path: &'static str) -> &'a str {
+        match self.optional(path) {
+            None => "",
+            Some(member) => self.taken(member.text()).unwrap_or(""),
+        }
+    }
+
+    /// Whether it is true, which must be told.
+    pub fn boolean(&mut self, path: &'static str) -> bool {
+        match self.member(path) {
+            None => false,
+            Some(member) => self.taken(member.boolean()).unwrap_or(false),
+        }
+    }
+
+    /// Whether it is there and true.
+    pub fn is_true(&mut self, path: &'static str) -> bool {
+        match self.optional(path) {
+            None => false,
+            Some(member) => self.taken(member.boolean()).unwrap_or(false),
+        }
+    }
+
+    /// Checks that it is an object.
+    pub fn object(&mut self, path: &'static str) {
+        if let Some(member) = self.member(path) {
+            let _ = self.taken(member.object());
+        }
+    }
+
+    /// Whether it is there, as an object.
+    pub fn has(&mut self, path: &'static str) -> bool {
+        match self.optional(path) {
+            None => false,
+            Some(member) => self.taken(member.object()).is_some(),
+        }
+    }
+
+    fn size(&mut self, path: &'static str) -> usize {
+        match self.member(path) {
+            None => 0,
+            Some(member) => self.taken(member.size()).unwrap_or(0),
+        }
+    }
+
+    /// The position that has its line at one path, and its column at another.
+    pub fn position(&mut self, line: &'static str, character: &'static str) -> Position {
+        Position {
+            line: self.size(line),
+            character: self.size(character),
+        }
+    }
+
+    /// The first text of the list at a path that is one of these; `instead` if there is no list, and nothing if it has none of them.
+    pub fn first_of(
+        &mut self,
+        path: &'static str,
+        known: &[&'static str],
+        instead: &'static str,
+    ) -> Option<&'static str> {
+        match self.optional(path) {
+            None => Some(instead),
+            Some(list) => self.taken(list.first_of(known))?,
+        }
     }
 }
 

@@ -3,8 +3,9 @@
 use crate::answers::Failure;
 use crate::client::{Client, SymbolKinds};
 use crate::fixes::QUICK_FIX;
-use crate::members::{Fault, Member};
+use crate::members::{Fault, Member, Reading};
 use crate::methods::Method;
+use crate::places::START;
 use crate::texts::{Change, said_by};
 use graphql_texts::Language;
 use json::Value;
@@ -13,111 +14,112 @@ use text_edits::{Encoding, Position, Range};
 
 /// The URI of the text that a message is about ("TextDocumentIdentifier").
 pub fn uri_of<'a>(message: Member<'_, 'a>) -> Result<&'a str, Fault> {
-    message.at("params.textDocument.uri")?.text()
+    message.text_at("params.textDocument.uri")
 }
 
-/// The version of that text, if the client counts versions.
-pub fn version_of(message: Member<'_, '_>) -> Result<Option<i64>, Fault> {
-    match message.get("params.textDocument.version")? {
-        None => Ok(None),
-        Some(version) => Ok(Some(version.integer()?)),
-    }
+// The version of that text, if the client counts versions.
+fn version_of(reading: &mut Reading<'_, '_>) -> Option<i64> {
+    let read = reading.optional("params.textDocument.version")?.integer();
+    reading.taken(read)
 }
 
-/// The language that the client says that text is in ("TextDocumentItem"), if it is one that the server knows.
-pub fn language_of(message: Member<'_, '_>) -> Result<Option<Language>, Fault> {
-    match message.get("params.textDocument.languageId")? {
-        None => Ok(None),
-        Some(id) => Ok(said_by(id.text()?)),
-    }
-}
-
-/// What is asked about a text.
+/// A text that is opened ("TextDocumentItem").
 #[derive(Clone, Copy)]
-pub enum Query<'v, 'a> {
-    Diagnostics,
-    Outline,
-    Folds,
-    /// Around the positions of a list.
-    Selections(Member<'v, 'a>),
-    Layout,
-    LayoutOf(Range),
-    /// Whether fixes are among the actions that are asked for ("CodeActionContext").
-    Actions(Range, bool),
-    Definition(Position),
-    /// Whether definitions are among the references that are asked for ("ReferenceContext").
-    References(Position, bool),
-    Hover(Position),
+pub struct Opened<'a> {
+    pub uri: &'a str,
+    /// The language that the client says it is in, if it is one that the server knows.
+    pub said: Option<Language>,
+    /// Its version, if the client counts versions.
+    pub version: Option<i64>,
+    pub text: &'a str,
+}
+
+/// The text that a message opens.
+pub fn opened_of<'a>(message: Member<'_, 'a>) -> Result<Opened<'a>, Fault> {
+    let mut reading = Reading::of(message);
+    let opened = Opened {
+        uri: reading.text("params.textDocument.uri"),
+        said: said_by(reading.optional_text("params.textDocument.languageId")),
+        version: version_of(&mut reading),
+        text: reading.text("params.textDocument.text"),
+    };
+    reading.check()?;
+    Ok(opened)
+}
+
+/// The text that a message changes: its URI, and the version that it then has.
+pub fn changed_of<'a>(message: Member<'_, 'a>) -> Result<(&'a str, Option<i64>), Fault> {
+    let mut reading = Reading::of(message);
+    let uri = reading.text("params.textDocument.uri");
+    let version = version_of(&mut reading);
+    reading.check()?;
+    Ok((uri, version))
+}
+
+/// What a request asks about a text.
+#[derive(Clone, Copy)]
+pub struct Query<'v, 'a> {
+    pub method: Method,
+    /// The URI of the text.
+    pub uri: &'a str,
+    /// The range that it is about, or its position, from which to which the range is then; else the beginning of the text.
+    pub range: Range,
+    /// Whether quick fixes are among the actions that are asked for ("CodeActionContext"), or definitions among the references
+    /// ("ReferenceContext").
+    pub takes: bool,
+    /// The list of positions around which selections are asked for.
+    pub positions: Option<Member<'v, 'a>>,
 }
 
 /// What a request of this method asks about a text.
 pub fn query_of<'v, 'a>(method: Method, message: Member<'v, 'a>) -> Result<Query<'v, 'a>, Fault> {
-    Ok(match method {
-        Method::DocumentSymbol => Query::Outline,
-        Method::FoldingRange => Query::Folds,
-        Method::SelectionRange => Query::Selections(message.at("params.positions")?),
-        Method::Formatting => Query::Layout,
-        Method::RangeFormatting => Query::LayoutOf(range_of(message)?),
-        Method::CodeAction => Query::Actions(range_of(message)?, wants_fixes(message)?),
-        Method::Definition => Query::Definition(position_of(message)?),
-        Method::Hover => Query::Hover(position_of(message)?),
-        Method::References => {
-            let position = position_of(message)?;
-            let all = message.at("params.context.includeDeclaration")?.boolean()?;
-            Query::References(position, all)
-        }
-        _ => Query::Diagnostics,
-    })
+    let mut reading = Reading::of(message);
+    let uri = reading.text("params.textDocument.uri");
+    let query = Query {
+        method,
+        uri,
+        range: range_of(method, &mut reading),
+        takes: takes_of(method, &mut reading),
+        positions: match method {
+            Method::SelectionRange => reading.member("params.positions"),
+            _ => None,
+        },
+    };
+    reading.check()?;
+    Ok(query)
 }
 
-// Whether quick fixes are among the kinds that are asked for: a kind stands for those below it too, and null for all.
-fn wants_fixes(message: Member<'_, '_>) -> Result<bool, Fault> {
-    message.at("params.context")?.object()?;
-    match message.get("params.context.only")? {
-        None => Ok(true),
-        Some(only) => Ok(only.first_of(&["", QUICK_FIX])?.is_some()),
+fn range_of(method: Method, reading: &mut Reading<'_, '_>) -> Range {
+    match method {
+        Method::RangeFormatting | Method::CodeAction => Range {
+            start: reading.position("params.range.start.line", "params.range.start.character"),
+            end: reading.position("params.range.end.line", "params.range.end.character"),
+        },
+        Method::Definition | Method::Hover | Method::References => {
+            let position = reading.position("params.position.line", "params.position.character");
+            Range {
+                start: position,
+                end: position,
+            }
+        }
+        _ => Range {
+            start: START,
+            end: START,
+        },
     }
 }
 
-// ---- Positions
-
-fn position_at(
-    member: Member<'_, '_>,
-    line: &'static str,
-    character: &'static str,
-) -> Result<Position, Fault> {
-    Ok(Position {
-        line: member.at(line)?.size()?,
-        character: member.at(character)?.size()?,
-    })
-}
-
-fn position_of(message: Member<'_, '_>) -> Result<Position, Fault> {
-    position_at(message, "params.position.line", "params.position.character")
-}
-
-fn range_of(message: Member<'_, '_>) -> Result<Range, Fault> {
-    Ok(Range {
-        start: position_at(
-            message,
-            "params.range.start.line",
-            "params.range.start.character",
-        )?,
-        end: position_at(
-            message,
-            "params.range.end.line",
-            "params.range.end.character",
-        )?,
-    })
-}
-
-/// A position of a list.
-pub fn position_in<'v, 'a>(
-    list: Member<'v, 'a>,
-    index: usize,
-    value: &'v Value<'a>,
-) -> Result<Position, Fault> {
-    position_at(list.item(index, value), "line", "character")
+fn takes_of(method: Method, reading: &mut Reading<'_, '_>) -> bool {
+    match method {
+        Method::CodeAction => {
+            reading.object("params.context");
+            // A kind stands for those below it too, and none for all.
+            let kinds = reading.first_of("params.context.only", &["", QUICK_FIX], "");
+            kinds.is_some()
+        }
+        Method::References => reading.boolean("params.context.includeDeclaration"),
+        _ => false,
+    }
 }
 
 // ---- Changes
@@ -140,90 +142,82 @@ pub fn changes_of<'a>(
 }
 
 fn change_of<'a>(item: Member<'_, 'a>) -> Result<Change<'a>, Fault> {
-    let range = match item.get("range")? {
+    let mut reading = Reading::of(item);
+    let range = match reading.optional("range") {
         None => None,
         Some(_) => Some(Range {
-            start: position_at(item, "range.start.line", "range.start.character")?,
-            end: position_at(item, "range.end.line", "range.end.character")?,
+            start: reading.position("range.start.line", "range.start.character"),
+            end: reading.position("range.end.line", "range.end.character"),
         }),
     };
-    Ok(Change {
-        range,
-        text: item.at("text")?.text()?,
-    })
+    let text = reading.text("text");
+    reading.check()?;
+    Ok(Change { range, text })
+}
+
+/// A position of a list.
+pub fn position_in<'v, 'a>(
+    list: Member<'v, 'a>,
+    index: usize,
+    value: &'v Value<'a>,
+) -> Result<Position, Fault> {
+    let mut reading = Reading::of(list.item(index, value));
+    let position = reading.position("line", "character");
+    reading.check()?;
+    Ok(position)
 }
 
 // ---- Capabilities
 
 /// What a client can do ("ClientCapabilities"). One that has the capabilities of diagnostics asks for them itself.
 pub fn client_of(message: Member<'_, '_>) -> Result<Client, Fault> {
-    message.at("params")?.object()?;
-    Ok(Client {
-        encoding: encoding_of(message)?,
-        asks_for_diagnostics: has(message, "params.capabilities.textDocument.diagnostic")?,
-        shows_related: is_true(
-            message,
+    let mut reading = Reading::of(message);
+    reading.object("params");
+    let client = Client {
+        encoding: encoding_of(&mut reading),
+        asks_for_diagnostics: reading.has("params.capabilities.textDocument.diagnostic"),
+        shows_related: reading.is_true(
             "params.capabilities.textDocument.publishDiagnostics.relatedInformation",
-        )?,
-        takes_fixes: has(
-            message,
+        ),
+        takes_fixes: reading.has(
             "params.capabilities.textDocument.codeAction.codeActionLiteralSupport",
-        )?,
-        nests_symbols: is_true(
-            message,
+        ),
+        nests_symbols: reading.is_true(
             "params.capabilities.textDocument.documentSymbol.hierarchicalDocumentSymbolSupport",
-        )?,
-        kinds: kinds_of(message)?,
-        likes_markdown: likes_markdown(message)?,
-    })
+        ),
+        kinds: kinds_of(&mut reading),
+        likes_markdown: reading.first_of(
+            "params.capabilities.textDocument.hover.contentFormat",
+            &["plaintext", "markdown"],
+            "plaintext",
+        ) == Some("markdown"),
+    };
+    reading.check()?;
+    Ok(client)
 }
 
-fn encoding_of(message: Member<'_, '_>) -> Result<Encoding, Fault> {
-    let known = match message.get("params.capabilities.general.positionEncodings")? {
-        None => None,
-        Some(names) => names.first_of(&["utf-8", "utf-16", "utf-32"])?,
-    };
-    Ok(match known {
+fn encoding_of(reading: &mut Reading<'_, '_>) -> Encoding {
+    let path = "params.capabilities.general.positionEncodings";
+    match reading.first_of(path, &["utf-8", "utf-16", "utf-32"], "utf-16") {
         Some("utf-8") => Encoding::Utf8,
         Some("utf-32") => Encoding::Utf32,
         _ => Encoding::Utf16,
-    })
-}
-
-fn likes_markdown(message: Member<'_, '_>) -> Result<bool, Fault> {
-    match message.get("params.capabilities.textDocument.hover.contentFormat")? {
-        None => Ok(false),
-        Some(names) => Ok(names.first_of(&["plaintext", "markdown"])? == Some("markdown")),
     }
 }
 
-fn kinds_of(message: Member<'_, '_>) -> Result<SymbolKinds, Fault> {
+fn kinds_of(reading: &mut Reading<'_, '_>) -> SymbolKinds {
     let path = "params.capabilities.textDocument.documentSymbol.symbolKind.valueSet";
-    let Some(list) = message.get(path)? else {
-        return Ok(SymbolKinds::first());
+    let Some(list) = reading.optional(path) else {
+        return SymbolKinds::first();
     };
     let mut kinds = SymbolKinds::none();
-    for (index, value) in list.items()?.iter().enumerate() {
-        kinds.add(list.item(index, value).size()?);
-    }
-    Ok(kinds)
-}
-
-// Whether this member is an object.
-fn has(message: Member<'_, '_>, path: &'static str) -> Result<bool, Fault> {
-    match message.get(path)? {
-        None => Ok(false),
-        Some(member) => {
-            member.object()?;
-            Ok(true)
+    let Some(items) = reading.items(list) else {
+        return kinds;
+    };
+    for (index, value) in items.iter().enumerate() {
+        if let Some(kind) = reading.taken(list.item(index, value).size()) {
+            kinds.add(kind);
         }
     }
-}
-
-// Whether this member is true.
-fn is_true(message: Member<'_, '_>, path: &'static str) -> Result<bool, Fault> {
-    match message.get(path)? {
-        None => Ok(false),
-        Some(member) => member.boolean(),
-    }
+    kinds
 }

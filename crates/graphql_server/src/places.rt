@@ -4,7 +4,7 @@ use std::alloc::{AllocError, Global};
 use text_edits::{Encoding, Position, Range};
 
 // The position is kept of each so many bytes.
-const STEP: usize = 32;
+const STEP: usize = 16;
 
 /// The positions of a text's offsets, each found in the same time however long its line is. (A `text_edits::Document` goes over the
 /// line; the positions are the same.)
@@ -12,7 +12,7 @@ const STEP: usize = 32;
 pub struct Places<'a> {
     text: &'a str,
     encoding: Encoding,
-    // The positions of the offsets 0, STEP, 2 * STEP ..
+    // The positions of the bytes 0, STEP, 2 * STEP ..: the character that a byte is in is counted with its first byte.
     marks: Vec<Position>,
 }
 
@@ -21,16 +21,14 @@ impl<'a> Places<'a> {
     ///
     /// It fails only where memory runs out.
     pub fn new(alloc: Global, encoding: Encoding, text: &'a str) -> Result<Places<'a>, AllocError> {
-        let mut marks = Vec::new(alloc);
+        let bytes = text.as_bytes();
+        let mut marks = Vec::with_capacity(alloc, bytes.len() / STEP + 1)?;
         let mut here = START;
-        let mut next = 0usize;
-        for (offset, c) in text.char_indices() {
-            let end = offset.saturating_add(c.len_utf8());
-            if next < end {
+        for (at, byte) in bytes.iter().enumerate() {
+            if at % STEP == 0 {
                 marks.push(here)?;
-                next = next.saturating_add(STEP);
             }
-            here = after(here, c, byte_at(text, end), encoding);
+            here = after(here, *byte, bytes.get(at + 1), encoding);
         }
         marks.push(here)?;
         Ok(Places {
@@ -43,12 +41,13 @@ impl<'a> Places<'a> {
     /// The position of an offset in bytes. One beyond the end of the text is its end, one inside of a character is where the character
     /// begins, and one inside of a `\r\n` is where that begins.
     pub fn position_of(&self, offset: usize) -> Position {
+        let bytes = self.text.as_bytes();
         let end = self.text.floor_char_boundary(offset);
-        let start = self.text.floor_char_boundary(end - end % STEP);
         let mut here = self.marks.get(end / STEP).copied().unwrap_or(START);
-        for (at, c) in self.text.get(start..end).unwrap_or("").char_indices() {
-            let passed = start.saturating_add(at).saturating_add(c.len_utf8());
-            here = after(here, c, byte_at(self.text, passed), self.encoding);
+        for at in end - end % STEP..end {
+            if let Some(byte) = bytes.get(at) {
+                here = after(here, *byte, bytes.get(at + 1), self.encoding);
+            }
         }
         here
     }
@@ -62,34 +61,34 @@ impl<'a> Places<'a> {
     }
 }
 
-const START: Position = Position {
+/// Where a text begins.
+pub const START: Position = Position {
     line: 0,
     character: 0,
 };
 
-fn byte_at(text: &str, offset: usize) -> Option<u8> {
-    text.as_bytes().get(offset).copied()
-}
-
-// The position after this character, which has that byte behind it.
-fn after(here: Position, c: char, next: Option<u8>, encoding: Encoding) -> Position {
+// The position after this byte, which has that one behind it.
+fn after(here: Position, byte: u8, next: Option<&u8>, encoding: Encoding) -> Position {
     let Position { line, character } = here;
-    match c {
-        '\r' if next == Some(b'\n') => here,
-        '\r' | '\n' => Position {
+    match byte {
+        b'\r' if next == Some(&b'\n') => here,
+        b'\r' | b'\n' => Position {
             line: line.saturating_add(1),
             character: 0,
         },
-        _ => {
-            let units = match encoding {
-                Encoding::Utf8 => c.len_utf8(),
-                Encoding::Utf16 => c.len_utf16(),
-                Encoding::Utf32 => 1,
-            };
-            Position {
-                line,
-                character: character.saturating_add(units),
-            }
-        }
+        _ => Position {
+            line,
+            character: character.saturating_add(units(byte, encoding)),
+        },
+    }
+}
+
+// How many units of a character are counted with this byte of it: all with its first byte, unless bytes are counted.
+fn units(byte: u8, encoding: Encoding) -> usize {
+    match (encoding, byte) {
+        (Encoding::Utf8, _) => 1,
+        (_, 0x80..=0xbf) => 0,
+        (Encoding::Utf16, 0xf0..=0xff) => 2,
+        _ => 1,
     }
 }

@@ -6,13 +6,14 @@ use crate::diagnostics::diagnostics_of;
 use crate::fixes::write_fixes;
 use crate::folding::write_folds;
 use crate::formatting::{write_layout, write_layout_of};
-use crate::messages::{Diagnostic, write_diagnostics};
+use crate::messages::{Diagnostic, Id, write_diagnostics};
+use crate::methods::Method;
 use crate::navigation::{write_definition, write_hover, write_references};
 use crate::outline::write_outline;
 use crate::params::{Query, position_in};
 use crate::places::Places;
 use crate::selection::{are_too_many, write_selection};
-use crate::texts::{OpenText, are_known, is_known};
+use crate::texts::{OpenText, are_known};
 use crate::writer::JsonWriter;
 use graphql_editor::Structure;
 use graphql_texts::Language;
@@ -54,59 +55,66 @@ impl<'s> Asked<'s> {
         self.text.document.offset_of(self.client.encoding, position)
     }
 
-    /// Logs the places that a request speaks of and that the text doesn't have: they are clipped.
-    pub fn log_clipped<'a>(
+    // Logs that an end of a range is a place that the text doesn't have: it is clipped.
+    fn log_clipped(self, range: Range, outbox: &mut Outbox) {
+        if !are_known(&self.text.document, self.client.encoding, range) {
+            outbox.warn(POSITION_CLIPPED, self.uri);
+        }
+    }
+
+    /// Writes the answer to a request, which is then to be sent.
+    pub fn answer<'a>(
         self,
-        query: Query<'_, 'a>,
+        id: Id<'_>,
+        query: &Query<'_, 'a>,
         outbox: &mut Outbox,
     ) -> Result<(), Failure<'a>> {
-        match query {
-            Query::Selections(list) => {
-                let items = list.items()?;
-                if are_too_many(items.len(), self.text()) {
-                    return Err(Failure::TooManyPositions);
-                }
-                for (index, value) in items.iter().enumerate() {
-                    self.log_position(position_in(list, index, value)?, outbox)?;
-                }
-                Ok(())
-            }
-            Query::Definition(position) | Query::References(position, _) | Query::Hover(position) =>
-                Ok(self.log_position(position, outbox)?),
-            Query::Actions(range, _) | Query::LayoutOf(range) => Ok(self.log_range(range, outbox)?),
-            Query::Diagnostics | Query::Outline | Query::Folds | Query::Layout => Ok(()),
+        self.log_clipped(query.range, outbox);
+        outbox.begin_answer(id);
+        match query.method {
+            Method::SelectionRange => self.write_selections(query, outbox),
+            Method::Diagnostic => Ok(self.write_report(&mut outbox.json)?),
+            Method::CodeAction => Ok(self.write_actions(query, &mut outbox.json)?),
+            _ => Ok(self.write_places(query, &mut outbox.json)?),
         }
     }
 
-    fn log_position(self, position: Position, outbox: &mut Outbox) -> Result<(), AllocError> {
-        if is_known(&self.text.document, self.client.encoding, position) {
+    // Writes the quick fixes of a range, if they are asked for and the client takes them.
+    fn write_actions(self, query: &Query<'_, '_>, json: &mut JsonWriter) -> Result<(), AllocError> {
+        if query.takes && self.client.takes_fixes {
+            return write_fixes(self, query.range, json);
+        }
+        json.begin_list();
+        json.end_list();
+        Ok(())
+    }
+
+    // Writes what a selection grows to at each position of a list.
+    fn write_selections<'a>(
+        self,
+        query: &Query<'_, 'a>,
+        outbox: &mut Outbox,
+    ) -> Result<(), Failure<'a>> {
+        let Some(list) = query.positions else {
             return Ok(());
+        };
+        let items = list.items()?;
+        if are_too_many(items.len(), self.text()) {
+            return Err(Failure::TooManyPositions);
         }
-        outbox.warn(POSITION_CLIPPED, self.uri)
-    }
-
-    fn log_range(self, range: Range, outbox: &mut Outbox) -> Result<(), AllocError> {
-        if are_known(&self.text.document, self.client.encoding, range) {
-            return Ok(());
+        let places = Places::new(self.alloc, self.client.encoding, self.text())?;
+        outbox.json.begin_list();
+        for (index, value) in items.iter().enumerate() {
+            let position = position_in(list, index, value)?;
+            let range = Range {
+                start: position,
+                end: position,
+            };
+            self.log_clipped(range, outbox);
+            write_selection(self, &places, self.offset_of(position), &mut outbox.json)?;
         }
-        outbox.warn(RANGE_CLIPPED, self.uri)
-    }
-
-    /// Writes the result of a request.
-    pub fn write<'a>(self, query: Query<'_, 'a>, json: &mut JsonWriter) -> Result<(), Failure<'a>> {
-        match query {
-            Query::Diagnostics => Ok(self.write_report(json)?),
-            Query::Actions(range, true) if self.client.takes_fixes => {
-                Ok(write_fixes(self, range, json)?)
-            }
-            Query::Actions(..) => {
-                // No action is asked for that the server has.
-                json.begin_list();
-                json.end_list();
-                Ok(())
-            }
-            _ => self.write_places(query, json),
-        }
+        outbox.json.end_list();
+        Ok(())
     }
 
     /// What is wrong with the text.
@@ -133,48 +141,37 @@ impl<'s> Asked<'s> {
     }
 
     // Writes a result that has many places of the text.
-    fn write_places<'a>(
-        self,
-        query: Query<'_, 'a>,
-        json: &mut JsonWriter,
-    ) -> Result<(), Failure<'a>> {
+    fn write_places(self, query: &Query<'_, '_>, json: &mut JsonWriter) -> Result<(), AllocError> {
         let places = Places::new(self.alloc, self.client.encoding, self.text())?;
-        match query {
-            Query::Layout => Ok(write_layout(self, &places, json)?),
-            Query::Selections(list) => {
-                json.begin_list();
-                for (index, value) in list.items()?.iter().enumerate() {
-                    let offset = self.offset_of(position_in(list, index, value)?);
-                    write_selection(self, &places, offset, json)?;
-                }
-                json.end_list();
-                Ok(())
-            }
-            _ => Ok(self.write_of_structure(query, &places, json)?),
+        if let Method::Formatting = query.method {
+            return write_layout(self, &places, json);
         }
-    }
-
-    // Writes a result that is made from the structure of the text.
-    fn write_of_structure(
-        self,
-        query: Query<'_, '_>,
-        places: &Places<'_>,
-        json: &mut JsonWriter,
-    ) -> Result<(), AllocError> {
         let structure = Structure::new(self.alloc, self.text())?;
-        match query {
-            Query::Outline => write_outline(self, &structure, places, json),
-            Query::LayoutOf(range) => write_layout_of(self, &structure, places, range, json),
-            Query::Definition(position) => {
-                write_definition(self, &structure, places, position, json);
+        let position = query.range.start;
+        match query.method {
+            Method::DocumentSymbol => write_outline(self, &structure, &places, json),
+            Method::RangeFormatting => write_layout_of(
+                self,
+                &structure,
+                &places,
+                query.range,
+                json,
+            ),
+            Method::References => write_references(
+                self,
+                &structure,
+                &places,
+                position,
+                query.takes,
+                json,
+            ),
+            Method::Hover => write_hover(self, &structure, &places, position, json),
+            Method::Definition => {
+                write_definition(self, &structure, &places, position, json);
                 Ok(())
             }
-            Query::References(position, all) => {
-                write_references(self, &structure, places, position, all, json)
-            }
-            Query::Hover(position) => write_hover(self, &structure, places, position, json),
             _ => {
-                write_folds(&structure, places, json);
+                write_folds(&structure, &places, json);
                 Ok(())
             }
         }

@@ -3,9 +3,10 @@
 ghost use Rattle.std.specs.Prelude.{◌≤◌, IfSome};
 
 use crate::answers::Failure;
+use crate::files::Files;
 use crate::framing::{Frames, Piece};
 use crate::session::Session;
-use std::alloc::{AllocError, Global};
+use std::alloc::Global;
 
 /// A language server for one client, which is written to and read from in bytes (Language Server Protocol 3.17, "Base Protocol").
 #[derive(Drop)]
@@ -33,48 +34,45 @@ impl Server {
         self.session.outbox.clear();
     }
 
-    /// Takes the bytes that arrived, in whatever parts, and does what the messages that are whole then ask for. If none is left, what is
-    /// wrong with a text that was changed is published, unless it was before.
+    /// Takes the bytes that arrived, in whatever parts. [`Server::next`] does what the messages that are whole then ask for.
     ///
-    /// A request is answered before the next message is read. A header part that is wrong, or a length beyond 64 MiB, is logged, and
-    /// reading goes on at the next `Content-Length:`. A content that is no JSON is answered by an error without id. Either may have been
-    /// a change, so no text is open from then on.
-    ///
-    /// It fails only where there is no memory for the bytes, or even for an error in the place of an answer. The server goes on then, and
-    /// the other messages are answered all the same. If a message is lost that may have changed a text, no text is open from then on.
-    pub fn receive(&mut self, bytes: &[u8]) -> Result<(), AllocError> {
-        if self.has_ended().is_some() {
-            return Ok(());
+    /// If there is no memory for them, the messages in them and the one that is in part before them are lost. They may have changed a
+    /// text, so no text is open from then on. That is logged once there is memory for it, and reading goes on at the next
+    /// `Content-Length:`.
+    pub fn receive(&mut self, bytes: &[u8]) {
+        if self.frames.add(bytes).is_err() {
+            self.session.lose_all();
+            self.session.outbox.note_shortage();
         }
-        if let Err(error) = self.frames.add(bytes) {
-            self.session.forget();
-            return Err(error);
-        }
-        let mut taken = Ok(());
-        for _ in 0..u64::MAX {
-            let Some(piece) = self.frames.next() else {
-                break;
-            };
-            let before = self.session.outbox.bytes.len();
-            if let Err(error) = self.take(piece) {
-                self.session.outbox.bytes.truncate(before);
-                taken = Err(error);
-            }
-            if self.has_ended().is_some() {
-                return taken;
-            }
-        }
-        self.frames.settle();
-        self.session.publish_changed()?;
-        taken
     }
 
-    fn take(&mut self, piece: Piece) -> Result<(), AllocError> {
-        match piece {
-            Piece::Content { start, end } => self.session.take(self.frames.content(start, end)),
-            Piece::OtherCharset => self.session.refuse_content(Failure::OtherCharset),
-            Piece::Fault(why) => self.session.take_fault(why),
+    /// Does what the next message that is whole asks for, and returns whether there was one. If none is left, what is wrong with texts
+    /// that were changed is published, unless it was before.
+    ///
+    /// A request is answered before the next message is read; one about a text that isn't open is answered from its file. A header part
+    /// that is wrong, or a length beyond 64 MiB, is logged, and reading goes on at the next `Content-Length:`. A content that is no JSON
+    /// is answered by an error without id. Either may have been a change, so no text is open from then on.
+    ///
+    /// A request for whose answer memory runs out is answered by an error. Each such want of memory is logged once there is memory for
+    /// that, and the other messages are answered all the same.
+    pub fn next<F: Files>(&mut self, files: &mut F) -> bool {
+        if self.has_ended().is_some() {
+            return false;
         }
+        let piece = self.frames.next();
+        match piece {
+            Some(Piece::Content { start, end }) => self
+                .session
+                .take(self.frames.content(start, end), files),
+            Some(Piece::OtherCharset) => self.session.refuse_content(Failure::OtherCharset),
+            Some(Piece::Fault(why)) => self.session.take_fault(why),
+            None => {
+                self.frames.settle();
+                self.session.publish_changed();
+            }
+        }
+        self.session.settle();
+        piece.is_some()
     }
 
     /// The input has ended. Unless the client said `exit` before, the status is 1.

@@ -2,20 +2,22 @@
 
 ghost use Rattle.std.specs.Prelude.{◌≤◌, IfSome};
 
-use crate::answers::{Failure, NOT_OPEN, Outbox};
+use crate::answers::{Failure, Outbox};
 use crate::capabilities::write_initialized;
 use crate::client::Client;
+use crate::files::{Files, closed_text};
 use crate::halves::replace_halves;
 use crate::members::Member;
 use crate::messages::{Id, Message, message_of};
 use crate::methods::Method;
-use crate::params::{changes_of, client_of, language_of, query_of, uri_of, version_of};
+use crate::params::{
+    Opened, Query, changed_of, changes_of, client_of, opened_of, query_of, uri_of,
+};
 use crate::results::{Asked, RANGE_CLIPPED};
 use crate::texts::{OpenText, change_all, index_of};
-use graphql_texts::Language;
 use json::{Error, Scratch, Value};
 use std::alloc::{AllocError, Global};
-use text_edits::Document;
+use std::mem;
 
 // How far a session is.
 #[derive(Clone, Copy)]
@@ -39,8 +41,8 @@ pub struct Session {
     client: Client,
     // The texts that are open, each with another URI. Nothing is kept of texts that are closed.
     texts: Vec<OpenText>,
-    // The text that was changed last, unless its diagnostics are published.
-    changed: Option<String>,
+    // Texts that are closed since a change of them may be lost, which isn't reported yet.
+    lost: Vec<OpenText>,
     /// What is sent.
     pub outbox: Outbox,
 }
@@ -48,9 +50,11 @@ pub struct Session {
 // What is logged of a text.
 const OPEN_BEFORE: &str = "the text was open before";
 
+const NOT_OPEN: &str = "the text isn't open";
+
 const LOST: &str = "the text is closed, since a change of it may be lost";
 
-// What is done with a message: it has its effect, and its answer is added, or it fails.
+// What is done with a message: it has its effect, or it fails.
 type Outcome<'a> = Result<(), Failure<'a>>;
 
 impl Session {
@@ -61,7 +65,7 @@ impl Session {
             phase: Phase::Fresh,
             client: Client::new(),
             texts: Vec::new(alloc),
-            changed: None,
+            lost: Vec::new(alloc),
             outbox: Outbox::new(alloc),
         }
     }
@@ -84,70 +88,60 @@ impl Session {
         }
     }
 
-    /// Does what a message asks for, and answers it, if it is a request.
-    ///
-    /// It fails only where there is no memory for an error in the place of an answer.
-    pub fn take(&mut self, content: &mut [u8]) -> Result<(), AllocError> {
+    /// Does what a message asks for, and answers it, if it is a request. Texts that aren't open are read from files.
+    pub fn take<F: Files>(&mut self, content: &mut [u8], files: &mut F) {
         replace_halves(content);
         let Ok(content) = std::str::from_utf8(content) else {
             return self.refuse_content(Failure::NotUtf8);
         };
         let mut scratch = Scratch::new(self.alloc);
         match Value::parse(self.alloc, content, &mut scratch) {
-            Ok(message) => self.take_message(&message),
+            Ok(message) => self.take_message(&message, files),
             Err(Error::OutOfMemory) => self.refuse_content(Failure::OutOfMemory),
             Err(_) => self.refuse_content(Failure::NotJson),
         }
     }
 
-    fn take_message(&mut self, message: &Value<'_>) -> Result<(), AllocError> {
+    fn take_message<F: Files>(&mut self, message: &Value<'_>, files: &mut F) {
         let kind = message_of(message);
         if !matches!(kind, Message::Notice(Method::DidChange, _)) {
-            self.publish_changed()?;
+            self.publish_changed();
         }
         match kind {
-            Message::Request(id, method) => self.answer_request(id, method, Member::of(message)),
+            Message::Request(id, method) => {
+                if let Err(failure) = self.answer(id, method, Member::of(message), files) {
+                    self.outbox.refuse(id, failure);
+                }
+            }
             Message::Notice(method, name) => self.take_notice(method, name, Member::of(message)),
-            Message::Answer => Ok(()),
+            Message::Answer => {}
             Message::Wrong(id, failure) => self.refuse_message(id, failure),
         }
     }
 
-    /// A message is lost for want of memory, which may have changed a text: no text is open from then on, until the client opens it
-    /// again.
-    pub fn forget(&mut self) {
-        self.texts = Vec::new(self.alloc);
-    }
-
     /// Logs what is wrong with a header part. The message may have changed a text: none is open from then on.
-    pub fn take_fault(&mut self, why: &str) -> Result<(), AllocError> {
-        self.publish_changed()?;
+    pub fn take_fault(&mut self, why: &'static str) {
+        self.publish_changed();
         if self.is_initialized() {
-            self.outbox.log(why)?;
+            self.outbox.log("", Failure::Header(why));
         }
-        self.lose_all()
+        self.lose_all();
     }
 
-    /// Answers a content by an error without an id, and logs it. If it can't be read it may have changed a text: none is open from
-    /// then on.
-    pub fn refuse_content(&mut self, failure: Failure<'_>) -> Result<(), AllocError> {
-        if failure.is_of_memory() {
-            self.forget();
-        }
-        self.publish_changed()?;
-        self.refuse_message(Id::Null, failure)?;
-        if failure.is_unread() {
-            self.lose_all()?;
-        }
-        Ok(())
+    /// Answers a content that can't be read by an error without an id, and logs it. It may have changed a text: none is open from then
+    /// on.
+    pub fn refuse_content(&mut self, failure: Failure<'_>) {
+        self.publish_changed();
+        self.refuse_message(Id::Null, failure);
+        self.lose_all();
     }
 
     // Answers a message that is none by an error, and logs it.
-    fn refuse_message(&mut self, id: Id<'_>, failure: Failure<'_>) -> Result<(), AllocError> {
-        if self.is_initialized() {
-            self.outbox.log_failure("", failure)?;
+    fn refuse_message(&mut self, id: Id<'_>, failure: Failure<'_>) {
+        if self.is_initialized() && !failure.is_of_memory() {
+            self.outbox.log("", failure);
         }
-        self.outbox.refuse(id, failure)
+        self.outbox.refuse(id, failure);
     }
 
     // Whether `initialize` was answered: nothing but answers is sent before that.
@@ -157,25 +151,14 @@ impl Session {
 
     // ---- Requests
 
-    fn answer_request(
+    // Answers a request, and sends the answer unless it fails.
+    fn answer<'a, F: Files>(
         &mut self,
         id: Id<'_>,
         method: Method,
-        message: Member<'_, '_>,
-    ) -> Result<(), AllocError> {
-        let before = self.outbox.bytes.len();
-        match self.answer(id, method, message) {
-            Ok(()) => Ok(()),
-            Err(failure) => {
-                if failure.is_of_memory() {
-                    self.outbox.bytes.truncate(before);
-                }
-                self.outbox.refuse(id, failure)
-            }
-        }
-    }
-
-    fn answer<'a>(&mut self, id: Id<'_>, method: Method, message: Member<'_, 'a>) -> Outcome<'a> {
+        message: Member<'_, 'a>,
+        files: &mut F,
+    ) -> Outcome<'a> {
         let failure = match (self.phase, method) {
             (Phase::Fresh, Method::Initialize) => return self.initialize(id, message),
             (Phase::Fresh, _) => Failure::NotInitialized,
@@ -189,7 +172,10 @@ impl Session {
                 | Method::DidClose
                 | Method::Other,
             ) => Failure::NoSuchRequest,
-            (Phase::Running, _) => return self.answer_about_text(id, method, message),
+            (Phase::Running, _) => {
+                let query = query_of(method, message)?;
+                return self.answer_query(id, &query, files);
+            }
             (Phase::ShutDown | Phase::Ended | Phase::CutShort, _) => Failure::ShutDown,
         };
         Err(failure)
@@ -199,7 +185,7 @@ impl Session {
         let client = client_of(message)?;
         self.outbox.begin_answer(id);
         write_initialized(&client, &mut self.outbox.json);
-        self.outbox.send()?;
+        self.send_answer()?;
         self.client = client;
         self.phase = Phase::Running;
         Ok(())
@@ -208,102 +194,90 @@ impl Session {
     fn shut_down<'a>(&mut self, id: Id<'_>) -> Outcome<'a> {
         self.outbox.begin_answer(id);
         self.outbox.json.null();
-        self.outbox.send()?;
+        self.send_answer()?;
         self.phase = Phase::ShutDown;
-        self.forget();
+        self.texts = Vec::new(self.alloc);
         Ok(())
     }
 
-    // Answers a request that is about one text.
-    fn answer_about_text<'a>(
+    fn send_answer<'a>(&mut self) -> Outcome<'a> {
+        if self.outbox.send_answer() {
+            Ok(())
+        } else {
+            Err(Failure::OutOfMemory)
+        }
+    }
+
+    // Answers a request that is about one text: as it is in the editor, or else in its file.
+    fn answer_query<'a, F: Files>(
         &mut self,
         id: Id<'_>,
-        method: Method,
-        message: Member<'_, 'a>,
+        query: &Query<'_, 'a>,
+        files: &mut F,
     ) -> Outcome<'a> {
-        let uri = uri_of(message)?;
-        let query = query_of(method, message)?;
-        let Some(index) = index_of(self.texts.as_slice(), uri) else {
-            self.outbox.warn(NOT_OPEN, uri)?;
-            return Err(Failure::NotOpen(uri));
-        };
-        let asked = Asked {
-            alloc: self.alloc,
-            client: &self.client,
-            uri,
-            text: &self.texts[index],
-        };
-        asked.log_clipped(query, &mut self.outbox)?;
-        self.outbox.begin_answer(id);
-        asked.write(query, &mut self.outbox.json)?;
-        Ok(self.outbox.send()?)
+        match index_of(self.texts.as_slice(), query.uri) {
+            Some(index) => {
+                let asked = Asked {
+                    alloc: self.alloc,
+                    client: &self.client,
+                    uri: query.uri,
+                    text: &self.texts[index],
+                };
+                asked.answer(id, query, &mut self.outbox)?;
+            }
+            None => {
+                let text = closed_text(self.alloc, files, query.uri)?;
+                let asked = Asked {
+                    alloc: self.alloc,
+                    client: &self.client,
+                    uri: query.uri,
+                    text: &text,
+                };
+                asked.answer(id, query, &mut self.outbox)?;
+            }
+        }
+        self.send_answer()
     }
 
     // ---- Notifications
 
     // Those that the server doesn't know have no effect, and neither has `$/cancelRequest`, since each request is answered before the
     // next message is read.
-    fn take_notice(
-        &mut self,
-        method: Method,
-        name: &str,
-        message: Member<'_, '_>,
-    ) -> Result<(), AllocError> {
+    fn take_notice(&mut self, method: Method, name: &str, message: Member<'_, '_>) {
         if let Method::Exit = method {
             self.phase = match self.phase {
                 Phase::ShutDown => Phase::Ended,
                 _ => Phase::CutShort,
             };
-            return Ok(());
         }
         let Phase::Running = self.phase else {
-            return Ok(());
+            return;
         };
-        let before = self.outbox.bytes.len();
         let outcome = match method {
             Method::DidOpen => self.did_open(message),
             Method::DidChange => self.did_change(message),
             Method::DidClose => self.did_close(message),
             _ => Ok(()),
         };
-        let Err(failure) = outcome else {
-            return Ok(());
-        };
-        if failure.is_of_memory() {
-            self.outbox.bytes.truncate(before);
+        if let Err(failure) = outcome {
+            self.outbox.log(name, failure);
+            self.lose_changed(method, message);
         }
-        self.outbox.log_failure(name, failure)?;
-        self.lose_changed(method, message)
     }
 
     fn did_open<'a>(&mut self, message: Member<'_, 'a>) -> Outcome<'a> {
-        let uri = uri_of(message)?;
-        let said = language_of(message)?;
-        let version = version_of(message)?;
-        let text = message.at("params.textDocument.text")?.text()?;
-        if self.close(uri) {
-            self.outbox.warn(OPEN_BEFORE, uri)?;
+        let opened = opened_of(message)?;
+        if self.close(opened.uri) {
+            self.outbox.warn(OPEN_BEFORE, opened.uri);
         }
-        self.open(uri, said, version, text)?;
-        Ok(self.publish(uri)?)
+        let index = self.texts.len();
+        self.open(&opened)?;
+        self.publish(index)
     }
 
     // Opens a text, which isn't open.
-    fn open(
-        &mut self,
-        uri: &str,
-        said: Option<Language>,
-        version: Option<i64>,
-        text: &str,
-    ) -> Result<(), AllocError> {
-        let uri = String::from_str(self.alloc, uri)?;
-        let document = Document::new(self.alloc, String::from_str(self.alloc, text)?)?;
-        self.texts.push(OpenText {
-            uri,
-            said,
-            version,
-            document,
-        })?;
+    fn open(&mut self, opened: &Opened<'_>) -> Result<(), AllocError> {
+        self.texts.push(OpenText::new(self.alloc, opened)?)?;
         Ok(())
     }
 
@@ -320,18 +294,20 @@ impl Session {
 
     // Changes a text, whose diagnostics are published before the next message that is no change of it, or once no message is left.
     fn did_change<'a>(&mut self, message: Member<'_, 'a>) -> Outcome<'a> {
-        let uri = uri_of(message)?;
-        let version = version_of(message)?;
-        if !self.is_changed(uri) {
-            self.publish_changed()?;
-            self.changed = Some(String::from_str(self.alloc, uri)?);
-        }
+        let (uri, version) = changed_of(message)?;
         let changes = changes_of(self.alloc, message)?;
         let Some(index) = index_of(self.texts.as_slice(), uri) else {
-            return Ok(self.outbox.warn(NOT_OPEN, uri)?);
+            self.outbox.warn(NOT_OPEN, uri);
+            return Ok(());
         };
-        let text = &mut self.texts[index];
+        if !self.is_changed(index) {
+            self.publish_changed();
+        }
+        let Some(text) = self.texts.get_mut(index) else {
+            return Ok(());
+        };
         text.version = version;
+        text.is_changed = true;
         let clipped = change_all(
             self.alloc,
             self.client.encoding,
@@ -339,7 +315,7 @@ impl Session {
             changes,
         )?;
         for _ in 0..clipped {
-            self.outbox.warn(RANGE_CLIPPED, uri)?;
+            self.outbox.warn(RANGE_CLIPPED, uri);
         }
         Ok(())
     }
@@ -347,9 +323,9 @@ impl Session {
     fn did_close<'a>(&mut self, message: Member<'_, 'a>) -> Outcome<'a> {
         let uri = uri_of(message)?;
         if !self.close(uri) {
-            self.outbox.warn(NOT_OPEN, uri)?;
+            self.outbox.warn(NOT_OPEN, uri);
         } else {
-            self.publish_none(uri)?;
+            self.publish_none(uri);
         }
         Ok(())
     }
@@ -357,92 +333,95 @@ impl Session {
     // ---- Lost changes
 
     // Closes what a notification without an effect may have changed: the text that it names, or any if that can't be read.
-    fn lose_changed(&mut self, method: Method, message: Member<'_, '_>) -> Result<(), AllocError> {
+    fn lose_changed(&mut self, method: Method, message: Member<'_, '_>) {
         match (method, uri_of(message)) {
             (Method::DidOpen | Method::DidChange, Ok(uri)) => {
                 if self.close(uri) {
-                    self.report_lost(uri)?;
+                    self.outbox.warn(LOST, uri);
+                    self.publish_none(uri);
                 }
-                Ok(())
             }
             (Method::DidChange, Err(_)) => self.lose_all(),
-            _ => Ok(()),
+            _ => {}
         }
     }
 
-    // Closes each text that is open, the one that was opened last first.
-    fn lose_all(&mut self) -> Result<(), AllocError> {
-        for _ in 0..u64::MAX {
-            let Some(text) = self.texts.pop() else {
+    /// Closes each text that is open, which [`Session::settle`] reports: a message that may have changed one is lost.
+    pub fn lose_all(&mut self) {
+        self.lost = mem::replace(&mut self.texts, Vec::new(self.alloc));
+    }
+
+    /// Reports what isn't reported yet, as far as there is memory for it: texts that were closed, the one that was opened last first, and
+    /// that memory ran out.
+    pub fn settle(&mut self) {
+        for _ in 0..self.lost.len() {
+            let Some(text) = self.lost.last() else {
                 break;
             };
-            self.report_lost(text.uri.as_str())?;
+            self.outbox.warn(LOST, text.uri.as_str());
+            if !self
+                .outbox
+                .publish(text.uri.as_str(), None, &[], &self.client)
+            {
+                break;
+            }
+            let _ = self.lost.pop();
         }
-        Ok(())
-    }
-
-    // Logs that a text is closed, and takes back what was published of it.
-    fn report_lost(&mut self, uri: &str) -> Result<(), AllocError> {
-        self.outbox.warn(LOST, uri)?;
-        self.publish_none(uri)
+        if self.is_initialized() {
+            self.outbox.log_shortage();
+        }
     }
 
     // ---- Diagnostics
 
-    // Whether this text is changed, and its diagnostics are to be published.
-    fn is_changed(&self, uri: &str) -> bool {
-        match &self.changed {
-            Some(changed) => changed.as_str() == uri,
-            None => false,
-        }
-    }
-
-    /// Publishes what is wrong with the text that was changed last, unless that was published.
-    ///
-    /// It fails only where there is no memory for a message that says so.
-    pub fn publish_changed(&mut self) -> Result<(), AllocError> {
-        let Some(uri) = self.changed.take() else {
-            return Ok(());
-        };
-        let before = self.outbox.bytes.len();
-        match self.publish(uri.as_str()) {
-            Ok(()) => Ok(()),
-            Err(_) => {
-                self.outbox.bytes.truncate(before);
-                self.outbox
-                    .log_failure("textDocument/didChange", Failure::OutOfMemory)
+    /// Publishes what is wrong with each text that was changed, unless that was published.
+    pub fn publish_changed(&mut self) {
+        for index in 0..self.texts.len() {
+            if self.is_changed(index)
+                && let Err(failure) = self.publish(index)
+            {
+                self.outbox.log("textDocument/didChange", failure);
             }
         }
     }
 
+    // Whether this text was changed, and what is wrong with it isn't published yet.
+    fn is_changed(&self, index: usize) -> bool {
+        match self.texts.get(index) {
+            Some(text) => text.is_changed,
+            None => false,
+        }
+    }
+
     // Publishes what is wrong with a text that is open, unless the client asks for it.
-    fn publish(&mut self, uri: &str) -> Result<(), AllocError> {
+    fn publish<'a>(&mut self, index: usize) -> Outcome<'a> {
+        if let Some(text) = self.texts.get_mut(index) {
+            text.is_changed = false;
+        }
         if self.client.asks_for_diagnostics {
             return Ok(());
         }
-        let Some(index) = index_of(self.texts.as_slice(), uri) else {
+        let Some(text) = self.texts.get(index) else {
             return Ok(());
         };
         let asked = Asked {
             alloc: self.alloc,
             client: &self.client,
-            uri,
-            text: &self.texts[index],
+            uri: text.uri.as_str(),
+            text,
         };
         let diagnostics = asked.diagnostics()?;
-        self.outbox.publish(
-            uri,
+        let _ = self.outbox.publish(
+            asked.uri,
             asked.text.version,
             diagnostics.as_slice(),
             &self.client,
-        )
+        );
+        Ok(())
     }
 
     // Takes back what was published of a text.
-    fn publish_none(&mut self, uri: &str) -> Result<(), AllocError> {
-        if self.client.asks_for_diagnostics {
-            return Ok(());
-        }
-        self.outbox.publish(uri, None, &[], &self.client)
+    fn publish_none(&mut self, uri: &str) {
+        let _ = self.outbox.publish(uri, None, &[], &self.client);
     }
 }

@@ -5,6 +5,7 @@ ghost use Rattle.text_edits.specs.Positions.{IsPosition};
 ghost use Rattle.graphql_server.specs.Changes.{AreChanged, IsChanged};
 ghost use Rattle.graphql_server.specs.Ranges.{IsRange};
 
+use crate::params::Opened;
 use graphql_texts::Language;
 use std::alloc::{AllocError, Global};
 use text_edits::{Document, Encoding, Position, Range};
@@ -20,6 +21,30 @@ pub struct OpenText {
     pub version: Option<i64>,
     /// The text.
     pub document: Document,
+    /// It was changed, and what is wrong with it isn't published yet.
+    pub is_changed: bool,
+}
+
+impl OpenText {
+    /// A text that is opened.
+    ///
+    /// It fails only where memory runs out.
+    pub fn new(alloc: Global, opened: &Opened<'_>) -> Result<OpenText, AllocError> {
+        let Opened {
+            uri,
+            said,
+            version,
+            text,
+        } = *opened;
+        let document = Document::new(alloc, String::from_str(alloc, text)?)?;
+        Ok(OpenText {
+            uri: String::from_str(alloc, uri)?,
+            said,
+            version,
+            document,
+            is_changed: false,
+        })
+    }
 }
 
 /// Where the text of this URI is among those that are open; None if it isn't open.

@@ -21,15 +21,17 @@ impl JsonWriter {
         }
     }
 
-    /// The text.
+    /// The text, with the end of the object that it is.
     ///
     /// It fails only where memory has run out.
     pub fn finish(self) -> Result<Vec<u8>, AllocError> {
+        let mut json = self;
+        json.end_object();
         let JsonWriter {
             tokens,
             has_failed,
             ..
-        } = self;
+        } = json;
         if has_failed {
             return Err(AllocError);
         }
