@@ -1,6 +1,6 @@
 //! The programs `gql` and `gqlparse`: what their calls print, what a text is read as, and what is told of texts with many mistakes.
 mod diagnoses;
-mod fakes;
+pub mod fakes;
 mod findings;
 mod ignored;
 mod listings;

@@ -5,14 +5,12 @@ ghost use Rattle.graphql_report.specs.declared.fronts.Language.{Language as Lang
 ghost use Rattle.graphql_texts.specs.checked.Good.{IsGoodText};
 ghost use Rattle.graphql_texts.specs.checked.Rewritten.{MeanTheSameAs, PrintsAs};
 
-use crate::check::{Found, check_source, is_blank, names_of};
+use crate::check::{Found, check_source, is_blank, source_of};
 use crate::command::{Call, Command};
-use crate::output::shown_name;
 use crate::telling::Teller;
 use crate::texts::Texts;
 use graphql_parser::Error;
 use graphql_texts::errors::Source;
-use graphql_texts::language::read_as;
 use graphql_texts::rewriting::{laid_out, minified, printed};
 use std::alloc::{AllocError, Global};
 use std::io::Write;
@@ -23,7 +21,7 @@ pub fn found_by(error: &Error, source: &Source<'_>, teller: &mut Teller) -> Foun
         return teller.run_out();
     }
     teller.tell_one(source, error);
-    Found::Refused
+    Found::Rejected
 }
 
 /// The text that the command writes in the place of this one, of a file of this name: laid out anew, its tree as text, or
@@ -41,17 +39,8 @@ pub fn written_anew<'a>(
     ensures printed { call.now.command ≡ Command.Print →
         IfOk result (λ s. (language : Lang) × PrintsAs language call.now.limits text.now (string_bytes s)) }
 {
-    let Ok(language) = read_as(teller.alloc, call.language, name, text) else {
+    let Ok(source) = source_of(teller.alloc, call, name, text) else {
         return Err(teller.run_out());
-    };
-    let Ok(shown) = shown_name(teller.alloc, name) else {
-        return Err(teller.run_out());
-    };
-    let source = Source {
-        names: names_of(name, shown.as_str()),
-        language,
-        limits: call.limits,
-        text,
     };
     let found = check_source(call, &source, teller);
     if !matches!(found, Found::Good) {

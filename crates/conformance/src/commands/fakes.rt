@@ -118,7 +118,8 @@ fn pass_unread(passed: &mut Vec<Passed>) -> Result<(), AllocError> {
     pass(passed, "mixed/\u{1b}locked", Unread::Forbidden)
 }
 
-fn pass(passed: &mut Vec<Passed>, name: &str, why: Unread) -> Result<(), AllocError> {
+/// Adds what can't be read, or is skipped, where a folder is searched.
+pub fn pass(passed: &mut Vec<Passed>, name: &str, why: Unread) -> Result<(), AllocError> {
     let name = String::from_str(*passed.allocator(), name)?;
     passed.push(Passed { name, why })?;
     Ok(())

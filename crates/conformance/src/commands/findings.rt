@@ -13,7 +13,10 @@ use graphql_commands::telling::Teller;
 use graphql_parser::lexer::{Token, Tokens};
 use graphql_parser::pos::PositionCalculator;
 use graphql_parser::{Error, Limits, Memory, Pos, check_query_from, check_schema_from};
-use graphql_report::{Language, ReadFrom, ReadUpTo, Style, finding_of, refused_token};
+use graphql_report::{
+    Finding, Language, ReadFrom, ReadUpTo, Style, explain_from, finding_from, finding_of,
+    refused_token,
+};
 use graphql_texts::check::error_of;
 use graphql_texts::errors::{MOST_FINDINGS, Names, Source};
 use graphql_texts::recovery::{next_definition, probable_opening, rest_at, unclosed_string};
@@ -21,7 +24,7 @@ use graphql_texts::{Diagnosis, diagnoses_of};
 use serde_json::to_string;
 use std::alloc::{AllocError, Global};
 
-// All that is told of a text: the reports, and the lines of JSON.
+// All that is reported of a text: the reports, and the lines of JSON.
 #[derive(Drop)]
 struct Told {
     reporter: Teller,
@@ -43,13 +46,12 @@ impl Told {
         self.lister.lines.as_str()
     }
 
-    fn is_as(&self, other: &Told) -> bool {
-        self.err.text() == other.err.text()
-            && self.lines() == other.lines()
-            && self.reporter.lines == other.reporter.lines
+    fn is_as(&self, alloc: Global, before: &Before) -> bool {
+        self.err.text() == before.reports.as_str()
+            && are_lines_of_findings(alloc, self.lines(), &before.findings)
     }
 
-    // Tells the errors of a text as it is done now.
+    // Reports the errors of a text as it is done now.
     fn tell_all(&mut self, alloc: Global, source: &Source<'_>) -> Result<(), AllocError> {
         tell_by(&mut self.reporter, alloc, source, &mut self.err)?;
         tell_by(&mut self.lister, alloc, source, &mut self.err)
@@ -63,22 +65,39 @@ fn tell_by(
     err: &mut Sheet,
 ) -> Result<(), AllocError> {
     match error_of(&mut Memory::new(alloc), source, true)? {
-        Some(refused) => teller.tell_all(source, refused, err),
+        Some(refused) => {
+            teller.tell_mistakes(source, refused);
+            teller.put_reports(err)
+        }
         None => Ok(()),
     }
 }
 
 // ---- as it was
 
-impl Told {
-    fn tell_all_before(&mut self, alloc: Global, whole: &Source<'_>) -> Result<(), AllocError> {
+// All that was reported of a text: the reports, and the findings.
+#[derive(Drop)]
+struct Before {
+    reports: String,
+    findings: Vec<Finding>,
+}
+
+impl Before {
+    fn new(alloc: Global) -> Before {
+        Before {
+            reports: String::new(alloc),
+            findings: Vec::new(alloc),
+        }
+    }
+
+    fn tell_all(&mut self, alloc: Global, whole: &Source<'_>) -> Result<(), AllocError> {
         let mut rest = String::from_str(alloc, whole.text)?;
         for turn in 0..MOST_FINDINGS {
             let source = Source {
                 text: rest.as_str(),
                 ..*whole
             };
-            match self.tell_first_before(alloc, &source, turn > 0)? {
+            match self.tell_first(alloc, &source, turn > 0)? {
                 Some(next) => rest = next,
                 None => break,
             }
@@ -86,20 +105,20 @@ impl Told {
         Ok(())
     }
 
-    // Tells the first error of a text, and returns a copy of the rest from the next definition on.
-    fn tell_first_before(
+    // Reports the first error of a text, and returns a copy of the rest from the next definition on.
+    fn tell_first(
         &mut self,
         alloc: Global,
         source: &Source<'_>,
         is_rest: bool,
     ) -> Result<Option<String>, AllocError> {
         match error_of(&mut Memory::new(alloc), source, true)? {
-            Some(refused) => self.tell_error_before(alloc, source, &refused.error, is_rest),
+            Some(refused) => self.tell_error(alloc, source, &refused.error, is_rest),
             None => Ok(None),
         }
     }
 
-    fn tell_error_before(
+    fn tell_error(
         &mut self,
         alloc: Global,
         source: &Source<'_>,
@@ -115,12 +134,35 @@ impl Told {
             token,
             unclosed: unclosed_before(source, token),
         };
-        self.reporter.tell(source, &known, error, &mut self.err)?;
-        self.lister.tell(source, &known, error, &mut self.err)?;
+        self.keep(alloc, source, &known, error)?;
         match next_before(source, token) {
             Some(offset) => rest_at(alloc, source.text, offset),
             None => Ok(None),
         }
+    }
+
+    // Keeps the report of an error, and its parts.
+    fn keep(
+        &mut self,
+        alloc: Global,
+        source: &Source<'_>,
+        known: &ReadUpTo<'_>,
+        error: &Error,
+    ) -> Result<(), AllocError>
+        requires { BeginsAt source.now.text.now known.now.from }
+    {
+        let Source {
+            names,
+            language,
+            limits,
+            text,
+        } = *source;
+        let (style, name) = (Style::Plain, names.shown);
+        let report = explain_from(style, alloc, language, name, text, known, limits, error)?;
+        self.reports.push_str(report.as_str())?;
+        let finding = finding_from(alloc, language, text, known, limits, error)?;
+        self.findings.push(finding)?;
+        Ok(())
     }
 }
 
@@ -211,10 +253,10 @@ fn findings_of(alloc: Global, language: Language, limits: Limits, text: &str) ->
         text,
     };
     let mut now = Told::new(alloc);
-    let mut before = Told::new(alloc);
+    let mut before = Before::new(alloc);
     let is_alike = now.tell_all(alloc, source).is_ok()
-        && before.tell_all_before(alloc, source).is_ok()
-        && now.is_as(&before)
+        && before.tell_all(alloc, source).is_ok()
+        && now.is_as(alloc, &before)
         && ends_alike(alloc, source)
         && is_diagnosed(alloc, source, now.lines());
     if is_alike {
@@ -241,7 +283,22 @@ fn is_end_alike(alloc: Global, source: &Source<'_>, error: &Error) -> bool {
     }
 }
 
-// Whether the diagnoses of a text are the findings of these lines of JSON, in order: the place is where a diagnosis begins.
+// Whether these lines of JSON have the places, the statuses and the messages of these findings, in order.
+fn are_lines_of_findings(alloc: Global, lines: &str, findings: &Vec<Finding>) -> bool {
+    let mut left = lines.lines();
+    let mut part = Shown::new(alloc, true);
+    for finding in findings {
+        let line = left.next().unwrap_or("");
+        if !has_place(&mut part, line, "\"line\":", ",\"column\":", finding.place)
+            || !has_words(&mut part, line, finding.status, finding.message.as_str())
+        {
+            return false;
+        }
+    }
+    left.next().is_none()
+}
+
+// Whether the diagnoses of a text are the findings of these lines of JSON, in order: from the place up to the end.
 fn is_diagnosed(alloc: Global, source: &Source<'_>, lines: &str) -> bool {
     match diagnoses_of(alloc, source.language, source.text, source.limits) {
         Ok(diagnoses) => are_lines_of(alloc, source.text, lines, &diagnoses),
@@ -253,29 +310,39 @@ fn are_lines_of(alloc: Global, text: &str, lines: &str, diagnoses: &Vec<Diagnosi
     let mut left = lines.lines();
     let mut part = Shown::new(alloc, true);
     for diagnosis in diagnoses {
-        if !is_line_of(&mut part, text, left.next().unwrap_or(""), diagnosis) {
+        let line = left.next().unwrap_or("");
+        let start = place_at(text, diagnosis.span.start);
+        let end = place_at(text, diagnosis.span.end);
+        if !has_place(&mut part, line, "\"line\":", ",\"column\":", start)
+            || !has_place(&mut part, line, "\"endLine\":", ",\"endColumn\":", end)
+            || !has_words(&mut part, line, diagnosis.status, diagnosis.message.as_str())
+        {
             return false;
         }
     }
     left.next().is_none()
 }
 
-// Whether a line of JSON has the place, the status and the message of a diagnosis; each is written to `part`.
-fn is_line_of(part: &mut Shown, text: &str, line: &str, diagnosis: &Diagnosis) -> bool {
-    let Some(place) = place_at(text, diagnosis.span.start) else {
+// Whether a line of JSON has this place under these names; it is written to `part`.
+fn has_place(part: &mut Shown, line: &str, first: &str, second: &str, place: Option<Pos>) -> bool {
+    let Some(place) = place else {
         return false;
     };
     part.clear();
-    part.item("\"line\":", &place.line);
-    part.item(",\"column\":", &place.column);
+    part.item(first, &place.line);
+    part.item(second, &place.column);
     part.word(",");
-    let has_place = is_in(part, line);
+    is_in(part, line)
+}
+
+// Whether a line of JSON has this status and this message; the first is written to `part`.
+fn has_words(part: &mut Shown, line: &str, status: &str, message: &str) -> bool {
     part.clear();
-    part.item("\"status\":\"", &diagnosis.status);
+    part.item("\"status\":\"", &status);
     part.word("\",");
     let has_status = is_in(part, line);
-    match to_string(part.alloc(), &diagnosis.message.as_str()) {
-        Ok(message) => has_place && has_status && line.contains(message.as_str()),
+    match to_string(part.alloc(), &message) {
+        Ok(message) => has_status && line.contains(message.as_str()),
         Err(_) => false,
     }
 }

@@ -5,7 +5,7 @@ use graphql_commands::Style;
 use std::io::ErrorKind;
 
 // What help speaks of.
-const TOLD: [&str; 18] = [
+const TOLD: [&str; 19] = [
     "check",
     "format",
     "minify",
@@ -20,6 +20,7 @@ const TOLD: [&str; 18] = [
     "--no-ignore",
     "--check",
     "--executable",
+    "--fragments",
     "--format FORMAT",
     "--color WHEN",
     "--quiet",

@@ -10,6 +10,7 @@ use super::listings;
 use crate::rows::Shown;
 use graphql_commands::{Style, run};
 use std::alloc::{AllocError, Global};
+use std::io::ErrorKind;
 
 /// A run of `gql`: its files and its arguments, what it writes to them and besides, and the status that it ends with.
 #[derive(Drop)]
@@ -39,7 +40,7 @@ impl<'a> Run<'a> {
             self.status = u8::MAX;
             return;
         }
-        let words = Some(self.words.as_slice());
+        let words = Ok(self.words.as_slice());
         let (out, err) = (&mut self.out, &mut self.err);
         self.status = run(alloc, words, style, &mut self.files, out, err);
     }
@@ -47,7 +48,8 @@ impl<'a> Run<'a> {
     /// Runs the program on words that are no text.
     pub fn end_without_words(&mut self, alloc: Global, style: Style) {
         let (out, err) = (&mut self.out, &mut self.err);
-        self.status = run(alloc, None, style, &mut self.files, out, err);
+        let words = Err(ErrorKind::InvalidData);
+        self.status = run(alloc, words, style, &mut self.files, out, err);
     }
 
     fn take_words(&mut self, alloc: Global, words: &str) -> Result<(), AllocError> {
