@@ -21,17 +21,20 @@ use std::{env, fs, io};
 
 fn main(rt: HostRuntime) -> ExitCode {
     let alloc = rt.alloc();
-    // An argument that is no text is wrong, and so is one for which there is no memory.
-    let words = words(&rt).ok();
-    if let Some(words) = &words
-        && is_server(words.as_slice())
+    let words = words(&rt);
+    let given = match &words {
+        Ok(words) => Ok(words.as_slice()),
+        Err(error) => Err(error.kind()),
+    };
+    if let Ok(words) = given
+        && is_server(words)
     {
         return ExitCode::from(serve(&rt));
     }
     let mut disk = Disk { rt: &rt };
     let status = run(
         alloc,
-        words.as_ref().map(|words| words.as_slice()),
+        given,
         style_of(&rt),
         &mut disk,
         &mut rt.stdout(),

@@ -1,11 +1,12 @@
 //! Checking texts: whether each is good.
-ghost use Rattle.std.specs.Prelude.{◌≡◌, ◌≤◌, ◌↔◌, ◌⊎◌, true, IsTrue, map, string_bytes};
+ghost use Rattle.std.specs.Prelude.{◌≡◌, ◌≤◌, ◌↔◌, ◌⊎◌, true, IfOk, IsTrue, map, string_bytes};
 ghost use Rattle.graphql_texts.specs.checked.Good.{IsGoodText};
-ghost use Rattle.graphql_commands.specs.checked.Files.{IsBlank, IsGood, IsGoodFile, GiveGoodTexts};
+ghost use Rattle.graphql_texts.specs.checked.Language.{IsReadAs};
+ghost use Rattle.graphql_commands.specs.checked.Files.{IsBlank, IsGoodFile, GivesGoodText, GiveGoodTexts};
 ghost use Rattle.graphql_commands.specs.declared.check.Found.TheVariants.{Good};
 
 use crate::command::Call;
-use crate::output::{reported_name, shown_name};
+use crate::output::reported_name;
 use crate::telling::Teller;
 use crate::texts::{Texts, Unread};
 use graphql_parser::Memory;
@@ -13,25 +14,26 @@ use graphql_parser::lexer::Tokens;
 use graphql_texts::check::error_of;
 use graphql_texts::errors::{Names, Source};
 use graphql_texts::language::read_as;
+use std::alloc::{AllocError, Global};
 use std::io::Write;
 
 /// What was found of a file.
 #[derive(Clone, Copy)]
 pub enum Found {
     Good,
-    Refused,
+    Rejected,
     Unread,
 }
 
 impl Found {
-    /// The exit status where all files are so.
+    /// The exit status if all files are so.
     pub fn status(self) -> u8
         ensures least { (result ≡ 0) ↔ (self ≡ Good) }
         ensures most { result ≤ 2 }
     {
         match self {
             Found::Good => 0,
-            Found::Refused => 1,
+            Found::Rejected => 1,
             Found::Unread => 2,
         }
     }
@@ -39,7 +41,7 @@ impl Found {
 
 /// Reads each of these files and checks it, one after another, and reports what is wrong with it. Reports go to `err` before the
 /// next file is read, and what is for standard output is kept. No text is kept while the next one is read. The status is 0 only
-/// where each file has a text that is good, or a blank one where requests may hold fragments alone; it is 2 where memory ran out.
+/// if each file has a text that is good, or a blank one if requests may hold fragments alone; it is 2 if memory ran out.
 pub fn check_files<T: Texts, E: Write>(
     call: &Call<'_>,
     files: &[String],
@@ -57,38 +59,33 @@ pub fn check_files<T: Texts, E: Write>(
         if teller.put_reports(err).is_err() {
             return 2;
         }
-        let name = file.as_str();
-        let text = texts.text(teller.alloc, name);
-        let found = check_text(call, name, &text, teller);
-        worst = worst.max(found.status());
-        if let Found::Good = found {
-            teller.tell_done(name, ": good\n", call.is_verbose);
-        }
+        worst = worst.max(check_file(call, file.as_str(), texts, teller));
     }
     worst
 }
 
-// What is found of the text of a file of this name, or of there being none.
-fn check_text(
-    call: &Call<'_>,
-    name: &str,
-    text: &Result<String, Unread>,
-    teller: &mut Teller,
-) -> Found
-    ensures { (result ≡ Good) →
-        IsGood call.now.language call.now.takes_fragments call.now.limits name.now text.now }
+// Checks the file of this name, and returns the exit status if all files are so.
+fn check_file<T: Texts>(call: &Call<'_>, name: &str, texts: &mut T, teller: &mut Teller) -> u8
+    ensures status { result ≤ 2 }
+    ensures good { result ≡ 0 →
+        GivesGoodText T.gives call.now.language call.now.takes_fragments call.now.limits texts.old
+        name.now texts.new }
 {
-    match text {
-        Ok(text) => check_read(call, name, text.as_str(), teller),
+    let found = match texts.text(teller.alloc, name) {
+        Ok(text) => check_text(call, name, text.as_str(), teller),
         Err(why) => {
-            teller.tell_unread(name, *why);
-            Found::Unread
+            teller.tell_unread(name, why);
+            return 2;
         }
+    };
+    if let Found::Good = found {
+        teller.tell_done(name, ": good\n", call.is_verbose);
     }
+    found.status()
 }
 
 // What is found of this text of a file of this name.
-fn check_read<'a>(call: &Call<'_>, name: &'a str, text: &'a str, teller: &mut Teller) -> Found
+fn check_text(call: &Call<'_>, name: &str, text: &str, teller: &mut Teller) -> Found
     ensures { (result ≡ Good) →
         IsGoodFile call.now.language call.now.takes_fragments call.now.limits name.now text.now
         ⊎ ((call.now.takes_fragments ≡ true) × IsBlank text.now) }
@@ -96,27 +93,33 @@ fn check_read<'a>(call: &Call<'_>, name: &'a str, text: &'a str, teller: &mut Te
     if call.takes_fragments && is_blank(text) {
         return Found::Good;
     }
-    let Ok(language) = read_as(teller.alloc, call.language, name, text) else {
-        return teller.run_out();
-    };
-    let Ok(shown) = shown_name(teller.alloc, name) else {
-        return teller.run_out();
-    };
-    let source = Source {
-        names: names_of(name, shown.as_str()),
-        language,
-        limits: call.limits,
-        text,
-    };
-    check_source(call, &source, teller)
+    match source_of(teller.alloc, call, name, text) {
+        Ok(source) => check_source(call, &source, teller),
+        Err(_) => teller.run_out(),
+    }
 }
 
-/// The names of a file that a call names so, and that is shown so.
-pub fn names_of<'a>(name: &'a str, shown: &'a str) -> Names<'a> {
-    Names {
-        shown,
-        name: reported_name(name),
-    }
+/// A text of a file of this name, as the call reads it. An error says that memory was refused.
+pub fn source_of<'a>(
+    alloc: Global,
+    call: &Call<'_>,
+    name: &'a str,
+    text: &'a str,
+) -> Result<Source<'a>, AllocError>
+    ensures language { IfOk result (λ source. IsReadAs call.now.language name.now source.language) }
+    ensures source { IfOk result (λ source.
+        (source.text.now ≡ text.now) × (source.limits ≡ call.now.limits)) }
+{
+    Ok(Source {
+        // How a terminal shows the name is found only for a report.
+        names: Names {
+            shown: "",
+            name: reported_name(name),
+        },
+        language: read_as(alloc, call.language, name, text)?,
+        limits: call.limits,
+        text,
+    })
 }
 
 /// Whether a text is empty, or has nothing but blanks, commas, line ends and comments.
@@ -130,7 +133,7 @@ pub fn is_blank(text: &str) -> bool
     }
 }
 
-/// What is found of a text, after what is wrong with it is reported. Where memory is refused, a budget stops the check of this
+/// What is found of a text, after what is wrong with it is reported. If memory is refused, a budget stops the check of this
 /// text alone.
 pub fn check_source(call: &Call<'_>, source: &Source<'_>, teller: &mut Teller) -> Found
     ensures { (result ≡ Good) →
@@ -142,7 +145,7 @@ pub fn check_source(call: &Call<'_>, source: &Source<'_>, teller: &mut Teller) -
         Ok(None) => Found::Good,
         Ok(Some(refused)) => {
             teller.tell_mistakes(source, refused);
-            Found::Refused
+            Found::Rejected
         }
         Err(_) if call.memory.is_some() => {
             teller.tell_unread(source.names.name, Unread::OverBudget);

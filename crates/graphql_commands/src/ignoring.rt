@@ -183,14 +183,8 @@ fn set_has(pattern: &str, start: usize, byte: u8) -> Option<(bool, usize)> {
 
 // Whether the member of a set at this place has this byte, and the place after it: a class as `[:alpha:]`, a range, or a byte.
 fn member_has(pattern: &str, at: usize, byte: u8) -> Option<(bool, usize)> {
-    if let Some(rest) = pattern.get(at..)
-        && let Some(rest) = rest.strip_prefix("[:")
-    {
-        let (name, others) = rest.split_once(']')?;
-        if let Some(name) = name.strip_suffix(':') {
-            let after = pattern.len().saturating_sub(others.len());
-            return Some((class_has(name, byte)?, after));
-        }
+    if let Some((name, after)) = class_at(pattern, at) {
+        return Some((class_has(name, byte)?, after));
     }
     let bytes = pattern.as_bytes();
     let (low, after) = literal(pattern, at)?;
@@ -212,38 +206,29 @@ fn literal(pattern: &str, at: usize) -> Option<(u8, usize)> {
     }
 }
 
-// The classes, and what is in each: pairs of the first and the last byte of a range.
-const CLASSES: [(&str, &str); 12] = [
-    ("alnum", "09AZaz"),
-    ("alpha", "AZaz"),
-    ("blank", "\t\t  "),
-    ("cntrl", "\0\x1f\x7f\x7f"),
-    ("digit", "09"),
-    ("graph", "!~"),
-    ("lower", "az"),
-    ("print", " ~"),
-    ("punct", "!/:@[`{~"),
-    ("space", "\t\n\x0c\r  "),
-    ("upper", "AZ"),
-    ("xdigit", "09AFaf"),
-];
+// The name of the class at this place of a set, if there is one, and the place after it.
+fn class_at(pattern: &str, at: usize) -> Option<(&str, usize)> {
+    let rest = pattern.get(at..)?.strip_prefix("[:")?;
+    let (name, others) = rest.split_once(']')?;
+    let after = pattern.len().saturating_sub(others.len());
+    Some((name.strip_suffix(':')?, after))
+}
 
 // Whether the class of this name has the byte; None if there is no such class.
 fn class_has(name: &str, byte: u8) -> Option<bool> {
-    for (class, ranges) in CLASSES {
-        if class == name {
-            return Some(are_ranges_of(ranges.as_bytes(), byte));
-        }
-    }
-    None
-}
-
-// Whether one of these ranges has the byte.
-fn are_ranges_of(ranges: &[u8], byte: u8) -> bool {
-    for range in ranges.chunks_exact(2) {
-        if range.first() <= Some(&byte) && Some(&byte) <= range.last() {
-            return true;
-        }
-    }
-    false
+    Some(match name {
+        "alnum" => byte.is_ascii_alphanumeric(),
+        "alpha" => byte.is_ascii_alphabetic(),
+        "blank" => matches!(byte, b' ' | b'\t'),
+        "cntrl" => byte.is_ascii_control(),
+        "digit" => byte.is_ascii_digit(),
+        "graph" => byte.is_ascii_graphic(),
+        "lower" => byte.is_ascii_lowercase(),
+        "print" => matches!(byte, b' '..=b'~'),
+        "punct" => byte.is_ascii_punctuation(),
+        "space" => byte.is_ascii_whitespace(),
+        "upper" => byte.is_ascii_uppercase(),
+        "xdigit" => byte.is_ascii_hexdigit(),
+        _ => return None,
+    })
 }

@@ -1,4 +1,6 @@
 //! Writing whole texts, and words as a terminal shows them.
+ghost use Rattle.std.specs.Prelude.{◌≡◌, length, take};
+
 use std::alloc::{AllocError, Global};
 use std::io;
 use std::io::{ErrorKind, Write};
@@ -15,6 +17,13 @@ pub fn put<W: Write>(to: &mut W, bytes: &[u8]) -> bool {
 fn write_whole<W: Write>(to: &mut W, bytes: &[u8]) -> io::Result<()> {
     to.write_all(bytes)?;
     to.flush()
+}
+
+/// The whole lines with which a text begins: all of it, if its last line has an end.
+pub fn whole_lines(text: &str) -> &str
+    ensures { result.now ≡ take (length result.now) text.now }
+{
+    text.trim_end_matches(|c: char| c != '\n')
 }
 
 /// The name by which a file is reported.

@@ -3,10 +3,10 @@ ghost use Rattle.std.specs.Prelude.{◌≡◌, ◌≤◌, ◌<◌, ◌⊎◌, If
 ghost use Rattle.std.specs.Str.{IsUtf8};
 ghost use Rattle.graphql_commands.specs.declared.texts.Unread.TheVariants.{Forbidden, BadName};
 
-use crate::check::{check_files, is_blank, names_of};
+use crate::check::{check_files, is_blank, source_of};
 use crate::command::{Call, Command, Format, NoCall, Wrong, command_of};
 use crate::listed::tell_tokens;
-use crate::output::{put, shown_name};
+use crate::output::put;
 use crate::rewriting::{format_files, found_by, written_anew};
 use crate::telling::Teller;
 use crate::texts::{Listing, Passed, Texts, Unread};
@@ -14,14 +14,13 @@ use graphql_json::{Places, request_json, schema_json};
 use graphql_parser::{Error, parse_query_limited, parse_schema_limited};
 use graphql_report::{Language, Style};
 use graphql_texts::errors::Source;
-use graphql_texts::language::read_as;
 use std::alloc::{AllocError, Global};
-use std::io::Write;
+use std::io::{ErrorKind, Write};
 
 const VERSION: &str = "gql 1.0.0\n";
 
 const USAGE: &str =
-    "usage: gql check|format|minify|print|tree|tokens|lsp [OPTION].. [FILE].. (gql --help tells more)\n";
+    "usage: gql check|format|minify|print|tree|tokens|lsp [OPTION].. [FILE].. (gql --help says more)\n";
 
 // What `run` says of `lsp`, which the program itself answers.
 const NO_SERVER: &str = "gql: an editor is served by the program alone\n";
@@ -29,17 +28,17 @@ const NO_SERVER: &str = "gql: an editor is served by the program alone\n";
 const HELP: &str = "usage: gql COMMAND [OPTION].. [FILE]..
 
 Commands:
-  check    tells what is wrong with each file, and with each file named *.graphql, *.graphqls, *.gqls, *.gql or *.sdl
-           below a folder: the first error of each definition, 100 of a file at most
+  check    reports what is wrong with each file, and with each file named *.graphql, *.graphqls, *.gqls, *.gql or
+           *.sdl below a folder: the first error of each definition, 100 of a file at most
   format   lays out each file anew in its place, with its comments, and each such file below a folder; a file with an
-           error stays, and is told as by check. Standard input is laid out on standard output
+           error stays, and the error is reported. Standard input is laid out on standard output
   minify   prints a file without comments, and without blanks and line ends that it doesn't need
   print    prints the tree of a file as text, without comments, laid out as by format; a file of fragments alone has no
-           tree, and is refused
+           tree, and is rejected
   tree     prints the tree of a file as JSON, as GraphQL.js has it
   tokens   prints the tokens of a file, a line for each
   lsp      serves an editor on standard input and output, by the Language Server Protocol; takes no file. The options
-           --stdio and --clientProcessId=N, which editors give to every server, change nothing
+           --stdio and --clientProcessId=N, which editors pass to every server, change nothing
 
 Without a file, and for the file -, standard input is read. Below a folder no link is followed to a folder or out of it,
 and what can't be read, or is no file, is reported and skipped. Hidden folders, those named node_modules, and what the file
@@ -48,19 +47,20 @@ and what can't be read, or is no file, is reported and skipped. Hidden folders, 
 Options:
   --query          the texts are requests
   --schema         the texts are schema files. Without either a file named *.graphqls, *.gqls or *.sdl is a schema
-                   file, and another one is what its first word tells
-  --limits S,V,T   how deep selection sets, values and list types may nest; 64,64,64 without it, 256 at most
+                   file, and the first word of another file decides
+  --limits S,V,T   how deep selection sets, values and list types may nest, 256 at most; 64,64,64 without it
   --memory BYTES   check: how much memory the check of a file may take; one that needs more counts as not read. No request
                    of N bytes needs more than 1105 N + 1161, and no schema file more than 57
   --no-ignore      check, format: searches all of a folder
-  --check          format: writes no file, and prints the names of those that it would; where it would, the status is 1
-  --executable     check: a request needs an operation; without it fragments alone are good, as --fragments says, and so
-                   is a file that is empty or has nothing but comments
-  --format FORMAT  check: text for people, which is so without it; json, a line for each finding, which has its file,
-                   severity, status and message, and line, column, endLine and endColumn where they are known; or
-                   github, a line for each, with which GitHub shows it where it is
-  --color WHEN     always, never or auto, which is so without it: if standard error is a terminal, NO_COLOR is not set
-                   or empty, and TERM is not dumb
+  --check          format: writes no file, and prints the names of those that it would; if there are any, the status is 1
+  --executable     check: a request needs an operation
+  --fragments      check: it needs none, as without --executable: fragments alone are good, and so is a file that is empty
+                   or has nothing but comments
+  --format FORMAT  check: text, for people, as without it; json, a line for each finding: its file, its line, column,
+                   endLine and endColumn if it has a place, its severity, status and message; or github, a line for
+                   each, with which GitHub shows it where it is
+  --color WHEN     always, never, or auto, as without it: if standard error is a terminal, NO_COLOR is not set or empty,
+                   and TERM is not dumb
   -v, --verbose    check: a line for each good file; format: one for each that is written
   -q, --quiet      check, format: nothing but the status
   --places         tree: with the line and the column of each node that has a place
@@ -69,21 +69,22 @@ Options:
   -V, --version    prints the version
 
 Reports for people go to standard error, and how many files there were to standard output, as do the lines of json and
-github. The status is 0 where all files are good, 1 where one is refused, and 2 where one can't be read or written, where
-the output can't be written, and for a wrong call. Where the reader of standard output has gone away, as head does, the
-status is the same as if it had stayed.
+github. The status is 0 if all files are good, 1 if one is rejected, and 2 if one can't be read or written, if the output
+can't be written, if memory runs out, and for a wrong call. If the reader of standard output has gone away, as head does,
+the status is the same as if it had stayed.
 ";
 
-/// Does the work of the program, and gives the exit status: 0, or 1 where a text is refused, or would be written anew and
+/// Does the work of the program, and returns the exit status: 0, or 1 if a text is rejected, or would be written anew and
 /// is only checked, or 2 for wrong arguments, a file that can't be read or written or is no UTF-8, output that can't be
 /// written, and memory that is refused. That the reader of `out` has gone away changes no status.
 ///
-/// `words` are the arguments without the program's name; None where they are no text. Texts are read from `texts`, and put
-/// there in the place of others; lists, trees and other texts go to `out`, reports and complaints to `err`, the reports in
-/// this style.
+/// `words` are the arguments without the program's name, or how reading them failed: without memory, or else since one is no
+/// text. Texts are read from `texts`, and put there in the place of others; lists, trees and other texts go to `out`, reports
+/// and complaints to `err`, the reports in this style. If memory runs out, nothing goes to `out`, and what goes to `err` are
+/// whole lines of what went there else, and that memory ran out.
 pub fn run<T: Texts, O: Write, E: Write>(
     alloc: Global,
-    words: Option<&[String]>,
+    words: Result<&[String], ErrorKind>,
     style: Style,
     texts: &mut T,
     out: &mut O,
@@ -91,56 +92,55 @@ pub fn run<T: Texts, O: Write, E: Write>(
 ) -> u8
     ensures { result ≤ 2 }
 {
-    let mut teller = Teller::new(alloc, Format::Text, style, false);
-    let status = answer_to(words, texts, &mut teller, err);
-    if teller.put_reports(err).is_err() {
-        put(err, b"gql: out of memory\n");
-        return 2;
-    }
-    if !put(out, teller.lines.as_str().as_bytes()) {
-        put(err, b"gql: cannot write standard output\n");
-        return 2;
-    }
-    status
-}
-
-// Answers to these arguments, and returns the exit status.
-fn answer_to<T: Texts, E: Write>(
-    words: Option<&[String]>,
-    texts: &mut T,
-    teller: &mut Teller,
-    err: &mut E,
-) -> u8
-    ensures { result ≤ 2 }
-{
     let asked = match words {
-        Some(words) => command_of(teller.alloc, words),
-        None => Err(NoCall::Wrong(Wrong::NotText)),
+        Ok(words) => command_of(alloc, words),
+        Err(ErrorKind::OutOfMemory) => Err(NoCall::NoMemory),
+        Err(_) => Err(NoCall::Wrong(Wrong::NotText)),
     };
     match asked {
-        Ok(call) => answer_to_call(&call, texts, teller, err),
-        Err(other) => answer_to_other(other, teller),
+        Ok(call) => {
+            let mut teller = Teller::new(alloc, Format::Text, style, false);
+            let status = answer_to_call(&call, texts, &mut teller, err);
+            end(&mut teller, status, out, err)
+        }
+        Err(NoCall::Help) => print(HELP, 0, out, err),
+        Err(NoCall::Version) => print(VERSION, 0, out, err),
+        Err(NoCall::Wrong(wrong)) => {
+            let mut teller = Teller::new(alloc, Format::Text, style, false);
+            teller.report_call(wrong, USAGE);
+            end(&mut teller, 2, out, err)
+        }
+        Err(NoCall::NoMemory) => run_out(err),
     }
 }
 
-fn answer_to_other(asked: NoCall<'_>, teller: &mut Teller) -> u8
-    ensures { result ≤ 2 }
+// Writes what was reported, and what is for standard output, and returns the exit status: this one if all is well.
+fn end<O: Write, E: Write>(teller: &mut Teller, status: u8, out: &mut O, err: &mut E) -> u8
+    ensures { status ≤ 2 → result ≤ 2 }
 {
-    match asked {
-        NoCall::Help => {
-            teller.word(HELP);
-            0
-        }
-        NoCall::Version => {
-            teller.word(VERSION);
-            0
-        }
-        NoCall::Wrong(wrong) => {
-            teller.report_call(wrong, USAGE);
-            2
-        }
-        NoCall::NoMemory => teller.run_out().status(),
+    if teller.put_reports(err).is_err() {
+        return run_out(err);
     }
+    print(teller.lines.as_str(), status, out, err)
+}
+
+// Writes a text to standard output, and returns the exit status: this one if it could be written.
+fn print<O: Write, E: Write>(text: &str, status: u8, out: &mut O, err: &mut E) -> u8
+    ensures { status ≤ 2 → result ≤ 2 }
+{
+    if put(out, text.as_bytes()) {
+        return status;
+    }
+    put(err, b"gql: cannot write standard output\n");
+    2
+}
+
+// Says that memory ran out, and returns the exit status for that.
+fn run_out<E: Write>(err: &mut E) -> u8
+    ensures { result ≡ 2 }
+{
+    put(err, b"gql: out of memory\n");
+    2
 }
 
 fn answer_to_call<T: Texts, E: Write>(
@@ -211,17 +211,8 @@ fn print_text(call: &Call<'_>, name: &str, text: &str, teller: &mut Teller) -> u
 fn print_tree<'a>(call: &Call<'_>, name: &'a str, text: &'a str, teller: &mut Teller) -> u8
     ensures { result ≤ 2 }
 {
-    let Ok(language) = read_as(teller.alloc, call.language, name, text) else {
+    let Ok(source) = source_of(teller.alloc, call, name, text) else {
         return teller.run_out().status();
-    };
-    let Ok(shown) = shown_name(teller.alloc, name) else {
-        return teller.run_out().status();
-    };
-    let source = Source {
-        names: names_of(name, shown.as_str()),
-        language,
-        limits: call.limits,
-        text,
     };
     match tree_line(teller.alloc, &source, call.has_places) {
         Ok(json) => {
@@ -267,10 +258,10 @@ fn each<T: Texts, E: Write>(call: &Call<'_>, texts: &mut T, teller: &mut Teller,
 {
     let mut files: Vec<String> = Vec::new(teller.alloc);
     let unlisted = push_files(call, texts, &mut files, teller);
-    let status = if let Command::Format = call.command {
-        format_files(call, files.as_slice(), texts, teller, err)
-    } else {
-        check_files(call, files.as_slice(), texts, teller, err)
+    let files = files.as_slice();
+    let status = match call.command {
+        Command::Format => format_files(call, files, texts, teller, err),
+        _ => check_files(call, files, texts, teller, err),
     };
     tell_counts(call, teller);
     status_beside(status, unlisted)

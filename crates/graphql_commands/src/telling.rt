@@ -1,23 +1,26 @@
 //! Reporting what is wrong with files: in reports for people, or in lines for programs.
-ghost use Rattle.std.specs.Prelude.{◌≡◌};
+ghost use Rattle.std.specs.Prelude.{◌≡◌, All};
+ghost use Rattle.graphql_texts.specs.checked.Diagnosed.{IsDiagnosisOf};
 ghost use Rattle.graphql_report.specs.reports.Rests.{BeginsAt};
 ghost use Rattle.graphql_commands.specs.declared.check.Found.TheVariants.{Unread as NotRead};
 
 use crate::check::Found;
 use crate::command::{Format, Valued, Wrong};
 use crate::listed::push_in_one_line;
-use crate::output::{push_shown, push_visible, put, reported_name};
+use crate::output::{push_shown, push_visible, put, reported_name, shown_name, whole_lines};
 use crate::texts::{Unread, Unwritten};
+use graphql_parser::pos::PositionCalculator;
 use graphql_parser::{Error, Pos};
-use graphql_report::{ReadUpTo, Style, explain_from, finding_from};
+use graphql_report::{ReadUpTo, Style, explain_from, finding_of};
 use graphql_texts::errors::{MOST_FINDINGS, Mistake, Refused, Source, first_error, next_error};
+use graphql_texts::{Diagnosis, diagnoses_of};
 use std::alloc::{AllocError, Global};
 use std::io::Write;
 
 /// Reports what is wrong with files: in which form, and what was reported so far. Reports for people wait until
 /// [`Teller::put_reports`] writes them to standard error, and lines until standard output is written.
 ///
-/// A part for which memory is refused is left out. It is known then that memory ran out, and nothing is done with further files.
+/// If memory runs out, nothing is reported any more, nothing is done with further files, and no line is written.
 #[derive(Drop)]
 pub struct Teller {
     pub alloc: Global,
@@ -26,12 +29,12 @@ pub struct Teller {
     pub is_quiet: bool,
     /// What goes to standard output.
     pub lines: String,
-    /// How many findings were reported.
-    pub findings: usize,
-    // How many files were good or written anew, stayed as they are, were refused, and couldn't be read or written.
+    // How many findings were reported.
+    findings: usize,
+    // How many files were good or written anew, stayed as they are, were rejected, and couldn't be read or written.
     done: usize,
     unchanged: usize,
-    refused: usize,
+    rejected: usize,
     unread: usize,
     unwritten: usize,
     // What goes to standard error.
@@ -51,7 +54,7 @@ impl Teller {
             findings: 0,
             done: 0,
             unchanged: 0,
-            refused: 0,
+            rejected: 0,
             unread: 0,
             unwritten: 0,
             reports: String::new(alloc),
@@ -59,9 +62,10 @@ impl Teller {
         }
     }
 
-    /// Writes the reports so far to standard error; a failure there changes no status. The error says that memory ran out before.
+    /// Writes the reports so far to standard error; a failure there changes no status. The error says that memory ran out before:
+    /// then only whole lines are written.
     pub fn put_reports<E: Write>(&mut self, err: &mut E) -> Result<(), AllocError> {
-        put(err, self.reports.as_str().as_bytes());
+        put(err, whole_lines(self.reports.as_str()).as_bytes());
         self.reports.clear();
         if self.is_out_of_memory {
             return Err(AllocError);
@@ -86,16 +90,20 @@ impl Teller {
 
     // ---- Reports
 
-    /// Adds a text to the reports.
+    /// Adds a text to the reports, unless memory ran out before.
     pub fn report(&mut self, text: &str) {
-        let written = self.reports.push_str(text);
-        self.note(written);
+        if !self.is_out_of_memory {
+            let written = self.reports.push_str(text);
+            self.note(written);
+        }
     }
 
-    // Adds a word from the command line to the reports.
+    // Adds a word from the command line to the reports, unless memory ran out before.
     fn report_shown(&mut self, word: &str) {
-        let written = push_shown(&mut self.reports, word);
-        self.note(written);
+        if !self.is_out_of_memory {
+            let written = push_shown(&mut self.reports, word);
+            self.note(written);
+        }
     }
 
     // Adds what is wrong with a file to the reports, up to the end of its line.
@@ -179,21 +187,21 @@ impl Teller {
         self.unchanged = self.unchanged.saturating_add(1);
     }
 
-    /// Adds how many files there were, as `3 files: 1 good, 1 refused (2 findings), 1 not read`. This word says what was done with
+    /// Adds how many files there were, as `3 files: 1 good, 1 rejected (2 findings), 1 not read`. This word says what was done with
     /// those with which all is well.
     pub fn count_files(&mut self, done: &str) {
         let count = self
             .done
             .saturating_add(self.unchanged)
-            .saturating_add(self.refused)
+            .saturating_add(self.rejected)
             .saturating_add(self.unread)
             .saturating_add(self.unwritten);
         self.number("", count);
         self.number(if count == 1 { " file: " } else { " files: " }, self.done);
         self.word(done);
         self.count(self.unchanged, " unchanged");
-        self.count(self.refused, " refused");
-        if self.refused > 0 {
+        self.count(self.rejected, " rejected");
+        if self.rejected > 0 {
             self.number(" (", self.findings);
             self.word(if self.findings == 1 {
                 " finding)"
@@ -216,40 +224,23 @@ impl Teller {
 
     // ---- Errors of a text
 
-    /// Reports what is wrong with a text, and writes the reports.
-    pub fn tell_all<'a, E: Write>(
-        &mut self,
-        source: &Source<'a>,
-        refused: Refused<'a>,
-        err: &mut E,
-    ) -> Result<(), AllocError> {
-        self.tell_mistakes(source, refused);
-        self.put_reports(err)
-    }
-
-    /// Reports the error of a text of whose reading this is known, and writes the reports.
-    pub fn tell<E: Write>(
-        &mut self,
-        source: &Source<'_>,
-        known: &ReadUpTo<'_>,
-        error: &Error,
-        err: &mut E,
-    ) -> Result<(), AllocError>
-        requires { BeginsAt source.now.text.now known.now.from }
-    {
-        self.tell_error(source, known, error);
-        self.put_reports(err)
-    }
-
     /// Reports what is wrong with a text: its first error, and those after it, [`MOST_FINDINGS`] at most.
     pub fn tell_mistakes<'a>(&mut self, source: &Source<'a>, refused: Refused<'a>) {
-        self.refused = self.refused.saturating_add(1);
+        self.rejected = self.rejected.saturating_add(1);
         if self.is_quiet {
             return;
         }
+        if let Format::Text = self.format {
+            self.report_mistakes(source, refused);
+        } else {
+            self.list_mistakes(source, &refused.error);
+        }
+    }
+
+    fn report_mistakes<'a>(&mut self, source: &Source<'a>, refused: Refused<'a>) {
         let mut mistake = first_error(source, refused);
         for _ in 0..MOST_FINDINGS {
-            self.tell_mistake(source, &mistake);
+            self.report_mistake(source, &mistake);
             match next_error(self.alloc, source, &mistake) {
                 Ok(Some(next)) => mistake = next,
                 Ok(None) => break,
@@ -262,45 +253,69 @@ impl Teller {
     }
 
     // Reports an error of a text.
-    fn tell_mistake(&mut self, source: &Source<'_>, mistake: &Mistake<'_>)
+    fn report_mistake(&mut self, source: &Source<'_>, mistake: &Mistake<'_>)
         requires { BeginsAt source.now.text.now mistake.now.known.from }
     {
         let (told, read) = mistake.told_in(source);
-        self.tell_error(&told, &read, &mistake.error);
+        self.report_error(&told, &read, &mistake.error);
     }
 
     /// Reports the error of a text that was read from its beginning on.
     pub fn tell_one(&mut self, source: &Source<'_>, error: &Error) {
         match source.refused_first(self.alloc, error) {
-            Ok(known) => self.tell_error(source, &known, error),
+            Ok(known) => self.report_error(source, &known, error),
             Err(_) => self.is_out_of_memory = true,
         }
     }
 
     // Reports the error of a text of whose reading this is known.
-    fn tell_error(&mut self, source: &Source<'_>, known: &ReadUpTo<'_>, error: &Error)
+    fn report_error(&mut self, source: &Source<'_>, known: &ReadUpTo<'_>, error: &Error)
         requires { BeginsAt source.now.text.now known.now.from }
     {
-        let Source {
-            names,
-            language,
-            limits,
-            text,
-        } = *source;
-        let (alloc, style, shown) = (self.alloc, self.style, names.shown);
         self.findings = self.findings.saturating_add(1);
-        if let Format::Text = self.format {
-            match explain_from(style, alloc, language, shown, text, known, limits, error) {
-                Ok(report) => self.report(report.as_str()),
-                Err(_) => self.is_out_of_memory = true,
-            }
-            return;
+        match report_of(self.alloc, self.style, source, known, error) {
+            Ok(report) => self.report(report.as_str()),
+            Err(_) => self.is_out_of_memory = true,
         }
-        match finding_from(alloc, language, text, known, limits, error) {
+    }
+
+    // Adds the lines of what is wrong with a text, whose first error this is: what an editor shows of it.
+    fn list_mistakes(&mut self, source: &Source<'_>, error: &Error) {
+        match diagnoses_of(self.alloc, source.language, source.text, source.limits) {
+            Ok(found) => self.list_diagnoses(source, error, found.as_slice()),
+            Err(_) => self.is_out_of_memory = true,
+        }
+    }
+
+    // The same of these diagnoses. An editor shows none if a text needs an operation and has only fragments.
+    fn list_diagnoses(&mut self, source: &Source<'_>, error: &Error, found: &[Diagnosis])
+        requires { All (IsDiagnosisOf source.now.text.now) found.now }
+    {
+        if found.is_empty() {
+            self.list_error(source, error);
+        }
+        let mut places = PositionCalculator::new(source.text);
+        let mut passed = 0usize;
+        for diagnosis in found {
+            places = before(places, passed, diagnosis.span.start, source.text);
+            let start = places.step(diagnosis.span.start);
+            let end = places.step(diagnosis.span.end);
+            passed = diagnosis.span.end;
+            self.push_line(&Line {
+                name: source.names.name,
+                range: Some((start, end)),
+                status: diagnosis.status,
+                message: diagnosis.message.as_str(),
+            });
+        }
+    }
+
+    // Adds the line of an error that names no place.
+    fn list_error(&mut self, source: &Source<'_>, error: &Error) {
+        match finding_of(self.alloc, source.language, source.text, source.limits, error) {
             Ok(found) => self.push_line(&Line {
-                name: names.name,
-                place: found.place,
-                end: found.end,
+                name: source.names.name,
+                range: None,
                 status: found.status,
                 message: found.message.as_str(),
             }),
@@ -330,8 +345,7 @@ impl Teller {
         }
         self.push_line(&Line {
             name: reported_name(name),
-            place: None,
-            end: None,
+            range: None,
             status: why.status(),
             message,
         });
@@ -370,13 +384,11 @@ impl Teller {
     fn push_json(&mut self, line: &Line<'_>) {
         self.word("{\"file\":");
         self.push_quoted(line.name);
-        if let Some(Pos { line, column }) = line.place {
-            self.number(",\"line\":", line);
-            self.number(",\"column\":", column);
-        }
-        if let Some(Pos { line, column }) = line.end {
-            self.number(",\"endLine\":", line);
-            self.number(",\"endColumn\":", column);
+        if let Some((start, end)) = line.range {
+            self.number(",\"line\":", start.line);
+            self.number(",\"column\":", start.column);
+            self.number(",\"endLine\":", end.line);
+            self.number(",\"endColumn\":", end.column);
         }
         self.word(",\"severity\":\"error\",\"status\":\"");
         self.word(line.status);
@@ -415,9 +427,9 @@ impl Teller {
     fn push_command(&mut self, line: &Line<'_>) {
         self.word("::error file=");
         self.push_property(line.name);
-        if let Some(Pos { line, column }) = line.place {
-            self.number(",line=", line);
-            self.number(",col=", column);
+        if let Some((start, _)) = line.range {
+            self.number(",line=", start.line);
+            self.number(",col=", start.column);
         }
         self.word("::");
         self.push_message(line.message);
@@ -456,10 +468,50 @@ impl Teller {
 #[derive(Clone, Copy)]
 struct Line<'a> {
     name: &'a str,
-    place: Option<Pos>,
-    end: Option<Pos>,
+    // Where it is, if it is at a place: the text from the first of these up to the second.
+    range: Option<(Pos, Pos)>,
     status: &'static str,
     message: &'a str,
+}
+
+// The report of an error of a text of whose reading this is known.
+fn report_of(
+    alloc: Global,
+    style: Style,
+    source: &Source<'_>,
+    known: &ReadUpTo<'_>,
+    error: &Error,
+) -> Result<String, AllocError>
+    requires { BeginsAt source.now.text.now known.now.from }
+{
+    let Source {
+        names,
+        language,
+        limits,
+        text,
+    } = *source;
+    let shown = shown_name(alloc, names.name)?;
+    let name = shown.as_str();
+    explain_from(style, alloc, language, name, text, known, limits, error)
+}
+
+// Finds the places of a text from this offset on, as these do that have passed so much, or else from the beginning.
+fn before<'a>(
+    places: PositionCalculator<'a>,
+    passed: usize,
+    offset: usize,
+    text: &'a str,
+) -> PositionCalculator<'a>
+    requires text { places.text ≡ text.now }
+    requires passed { places.offset ≡ passed }
+    ensures text { result.text ≡ text.entry.now }
+    ensures offset { result.offset ≤ offset }
+{
+    if passed <= offset {
+        places
+    } else {
+        PositionCalculator::new(text)
+    }
 }
 
 fn needs(option: Valued) -> &'static str {

@@ -6,9 +6,6 @@ use std::fs::{Files, Metadata};
 use std::io::{ErrorKind, Read};
 use std::{fs, io, str};
 
-// The extensions of the files that are looked for in folders.
-const EXTENSIONS: [&str; 5] = [".graphql", ".graphqls", ".gqls", ".gql", ".sdl"];
-
 // So many folders lie in one another at most: the name of a path has at most 4,096 bytes.
 const MOST_FOLDERS: usize = 2048;
 
@@ -85,13 +82,14 @@ fn push_path(path: &mut String, folder: &str, name: &str) -> Result<(), AllocErr
     path.push_str(name)
 }
 
+// Whether a file of this name is looked for in folders.
 fn is_graphql(name: &str) -> bool {
-    for end in EXTENSIONS {
-        if name.ends_with(end) {
-            return true;
+    match name.rsplit_once('.') {
+        Some((_, extension)) => {
+            matches!(extension, "graphql" | "graphqls" | "gqls" | "gql" | "sdl")
         }
+        None => false,
     }
-    false
 }
 
 impl Walker<'_> {

@@ -21,9 +21,9 @@ enum Command {
 
 const HELP: &str = "usage: gqlparse query|schema
 Reads a text from standard input, a request or a schema file, and lists what it defines, a line for each definition, with
-its line and its column. A refused text is told on standard error, by the error and the list of its places. The status is
-0 for an accepted text, 1 for a refused one, and 2 for wrong arguments, input that can't be read or isn't UTF-8, output
-that can't be written, and memory that is refused outside the parser.
+its line and its column. If a text is rejected, the error and the list of its places go to standard error. The status is
+0 for an accepted text, 1 for a rejected one, and 2 for wrong arguments, input that can't be read or isn't UTF-8, output
+that can't be written, and memory that runs out outside the parser.
 ";
 
 // What is answered: help, the lines of an accepted text for standard output, or those of a refused one for standard error.

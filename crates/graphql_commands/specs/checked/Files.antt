@@ -29,8 +29,17 @@ IsGoodFile option fragments limits name text = (language : Language) × IsReadAs
 abbrev pub IsGood : Option Language → Bool → Limits → List ℕ → Result (String Global) Unread → Type 0
 IsGood option fragments limits name read = IsOkAnd read (λ text. IsGoodFile option fragments limits name (string_bytes text) ⊎ ((fragments ≡ true) × IsBlank (string_bytes text)))
 
+-- What is read under this name at a state leads to another state, and is good. `gives` says what may be read under a name at a
+-- state, and the state after that.
+abbrev pub GivesGoodText : {T : Type 0} → (T → List ℕ → Result (String Global) Unread → T → Type 0) → Option Language → Bool → Limits → T → List ℕ → T → Type 0
+GivesGoodText gives option fragments limits here name there = (read : Result (String Global) Unread) × gives here name read there × IsGood option fragments limits name read
+
+-- What is done under these names one after another leads from one state to another; `step` says what is done under one.
+abbrev pub AreSteps : {T : Type 0} → (T → List ℕ → T → Type 0) → T → List (List ℕ) → T → Type 0
+AreSteps step here [] there = here ≡ there
+AreSteps {T} step here (name ∷ names) there = (next : T) × step here name next × AreSteps step next names there
+
 -- Read under these names one after another, from one state of what texts are read from to another, there is a text each
--- time, and it is good. `gives` says what may be read under a name at a state, and the state after that.
+-- time, and it is good.
 abbrev pub GiveGoodTexts : {T : Type 0} → (T → List ℕ → Result (String Global) Unread → T → Type 0) → Option Language → Bool → Limits → T → List (List ℕ) → T → Type 0
-GiveGoodTexts gives option fragments limits here [] there = here ≡ there
-GiveGoodTexts {T} gives option fragments limits here (name ∷ names) there = (read : Result (String Global) Unread) × (next : T) × gives here name read next × IsGood option fragments limits name read × GiveGoodTexts gives option fragments limits next names there
+GiveGoodTexts gives option fragments limits = AreSteps (GivesGoodText gives option fragments limits)
