@@ -1,7 +1,7 @@
 //! What the program prints of an accepted text: a line for each definition, with the place where it stands.
-use graphql_trees::{ExecutableDocument, ServiceDocument, TypeKind, TypeSystemDefinition};
 use graphql_syntax::types::OperationType;
 use graphql_tokens::pos::Pos;
+use graphql_trees::{ExecutableDocument, ServiceDocument, TypeKind, TypeSystemDefinition};
 use std::alloc::{AllocError, Global};
 
 /// The lines of a request: its operations, and then its fragments, each kind in source order.

@@ -2,6 +2,7 @@
 //!
 //! A tree keeps each node at its place: a node stands where its first token begins. All fields are
 //! public, and a tree that a caller builds is as good as one that was read.
+pub use graphql_syntax::types::{BaseType, ConstDirective, Directive, OperationType, Type};
 pub use graphql_trees::{
     DirectiveDefinition, DirectiveLocation, DocumentOperations, EnumType, EnumValueDefinition,
     ExecutableDocument, Field, FieldDefinition, FragmentDefinition, FragmentSpread, InlineFragment,
@@ -10,4 +11,3 @@ pub use graphql_trees::{
     ServiceDocument, TypeCondition, TypeDefinition, TypeKind, TypeSystemDefinition, UnionType,
     VariableDefinition,
 };
-pub use graphql_syntax::types::{BaseType, ConstDirective, Directive, OperationType, Type};

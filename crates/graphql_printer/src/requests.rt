@@ -17,13 +17,13 @@ use crate::parts::{operation_word, print_arguments, print_default};
 use crate::places::stands_before;
 use crate::widths::is_long;
 use crate::writer::Writer;
+use graphql_syntax::types::OperationType;
+use graphql_syntax::value::Name;
+use graphql_tokens::pos::{Pos, Positioned};
 use graphql_trees::{
     ExecutableDocument, Field, FragmentDefinition, FragmentSpread, InlineFragment, NameMap,
     OperationDefinition, Selection, SelectionSet, TypeCondition, VariableDefinition,
 };
-use graphql_syntax::types::OperationType;
-use graphql_syntax::value::Name;
-use graphql_tokens::pos::{Pos, Positioned};
 use std::alloc::{AllocError, Global};
 
 /// The request as text, laid out as [`format_query`](crate::format_query) lays texts out: its operations and fragments, where

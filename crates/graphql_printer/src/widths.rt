@@ -1,7 +1,7 @@
 //! How long fields are on one line.
-use graphql_trees::Field;
 use graphql_syntax::value::{Name, Value};
 use graphql_tokens::pos::Positioned;
+use graphql_trees::Field;
 
 // The arguments of a field are broken over lines where it would be longer than this with them.
 const LONGEST_CALL: usize = 80;

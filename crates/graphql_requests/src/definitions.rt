@@ -19,10 +19,10 @@ use graphql_reading::limits::Limits;
 use graphql_reading::names::read_name;
 use graphql_reading::parser::{Parser, Reading, Refusal};
 use graphql_reading::production::{Production, maybe_bracketed};
-use graphql_trees::{FragmentDefinition, OperationDefinition};
 use graphql_syntax::pos::Positioned;
 use graphql_syntax::types::OperationType;
 use graphql_syntax::value::Name;
+use graphql_trees::{FragmentDefinition, OperationDefinition};
 
 /// A definition, before the rules of documents are looked at.
 #[derive(Drop)]

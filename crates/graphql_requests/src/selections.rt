@@ -17,8 +17,8 @@ mod heads;
 
 use graphql_reading::limits::Limits;
 use graphql_reading::parser::{Parser, Reading};
-use graphql_trees::{Selection, SelectionSet};
 use graphql_syntax::pos::{Pos, Positioned};
+use graphql_trees::{Selection, SelectionSet};
 pub use heads::{is_at_fragment_name, is_at_inline, is_at_selection, read_type_condition};
 use smallvec::SmallVec;
 use std::alloc::AllocError;

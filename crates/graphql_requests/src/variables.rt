@@ -18,10 +18,10 @@ use graphql_reading::limits::Limits;
 use graphql_reading::names::read_name;
 use graphql_reading::parser::{Parser, Reading};
 use graphql_reading::production::Production;
-use graphql_trees::VariableDefinition;
 use graphql_syntax::pos::Positioned;
 use graphql_syntax::types::Directive;
 use graphql_syntax::value::ConstValue;
+use graphql_trees::VariableDefinition;
 
 /// A default value and directives, in either order.
 ///

@@ -14,8 +14,8 @@ use crate::types::{read_type_body, type_with, word_in_hand};
 use graphql_reading::limits::Limits;
 use graphql_reading::parser::{Parser, Reading};
 use graphql_reading::production::Production;
-use graphql_trees::{DirectiveDefinition, TypeDefinition};
 use graphql_syntax::pos::Positioned;
+use graphql_trees::{DirectiveDefinition, TypeDefinition};
 
 /// A definition or an extension, before the rules of schema files are looked at.
 #[derive(Drop)]

@@ -18,8 +18,8 @@ use graphql_reading::limits::Limits;
 use graphql_reading::names::read_name;
 use graphql_reading::parser::{Parser, Reading, Refusal};
 use graphql_reading::production::{Production, separated};
-use graphql_trees::{DirectiveDefinition, DirectiveLocation};
 use graphql_syntax::pos::Positioned;
+use graphql_trees::{DirectiveDefinition, DirectiveLocation};
 
 /// The location that a word names, if it names one.
 pub fn location_of(word: &str) -> Option<DirectiveLocation>

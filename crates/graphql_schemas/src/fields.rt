@@ -15,8 +15,8 @@ use graphql_reading::limits::Limits;
 use graphql_reading::names::read_name;
 use graphql_reading::parser::{Parser, Reading};
 use graphql_reading::production::Production;
-use graphql_trees::FieldDefinition;
 use graphql_syntax::pos::Positioned;
+use graphql_trees::FieldDefinition;
 
 /// `FieldDefinition : Description? Name ArgumentsDefinition? ':' Type Directives[Const]?`
 pub struct FieldPhrase;

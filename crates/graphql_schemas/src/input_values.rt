@@ -17,8 +17,8 @@ use graphql_reading::limits::Limits;
 use graphql_reading::names::read_name;
 use graphql_reading::parser::{Parser, Reading};
 use graphql_reading::production::{Production, maybe_bracketed};
-use graphql_trees::InputValueDefinition;
 use graphql_syntax::pos::Positioned;
+use graphql_trees::InputValueDefinition;
 
 /// Whether the lookahead is a member with a name: its description, or its name.
 #[inline(always)]

@@ -21,10 +21,10 @@ use graphql_reading::limits::Limits;
 use graphql_reading::names::NamePhrase;
 use graphql_reading::parser::{Parser, Reading, Refusal};
 use graphql_reading::production::{Production, separated};
-use graphql_trees::EnumValueDefinition;
 use graphql_syntax::lexer::Token;
 use graphql_syntax::pos::Positioned;
 use graphql_syntax::value::Name;
+use graphql_trees::EnumValueDefinition;
 
 /// Reads the interfaces that a type implements, if the lookahead is `implements`; else there are none.
 ///

@@ -14,10 +14,10 @@ use crate::definitions::Definition;
 use crate::schema::{Root, Schema};
 use graphql_grammar::error::{Error, Result};
 use graphql_memory::Memory;
-use graphql_trees::{SchemaDefinition, ServiceDocument, TypeSystemDefinition};
 use graphql_syntax::pos::{Pos, Positioned};
 use graphql_syntax::types::OperationType;
 use graphql_syntax::value::Name;
+use graphql_trees::{SchemaDefinition, ServiceDocument, TypeSystemDefinition};
 
 /// The roots of a schema, each under its kind.
 #[derive(Drop)]

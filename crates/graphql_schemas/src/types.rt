@@ -23,14 +23,14 @@ use graphql_reading::limits::Limits;
 use graphql_reading::names::read_name;
 use graphql_reading::parser::{Parser, Reading, Refusal};
 use graphql_reading::production::{Production, maybe_bracketed};
-use graphql_trees::{
-    EnumType, FieldDefinition, InputObjectType, InterfaceType, ObjectType, TypeDefinition,
-    TypeKind, UnionType,
-};
 use graphql_syntax::lexer::Token;
 use graphql_syntax::pos::Positioned;
 use graphql_syntax::types::ConstDirective;
 use graphql_syntax::value::Name;
+use graphql_trees::{
+    EnumType, FieldDefinition, InputObjectType, InterfaceType, ObjectType, TypeDefinition,
+    TypeKind, UnionType,
+};
 
 /// The keyword of a type's definition.
 #[derive(Clone, Copy)]

@@ -14,11 +14,11 @@ use graphql_grammar::arguments::{read_arguments, read_directives};
 use graphql_reading::limits::Limits;
 use graphql_reading::names::read_name;
 use graphql_reading::parser::{Parser, Reading, Refusal};
+use graphql_syntax::pos::{Pos, Positioned};
+use graphql_syntax::value::Name;
 use graphql_trees::{
     Field, FragmentSpread, InlineFragment, Selection, SelectionSet, TypeCondition,
 };
-use graphql_syntax::pos::{Pos, Positioned};
-use graphql_syntax::value::Name;
 
 // A field without a set has an empty one, which stands nowhere.
 const NOWHERE: Pos = Pos { line: 0, column: 0 };
