@@ -134,7 +134,6 @@ fn half_written(alloc: Global) -> Unwritten {
 
 impl Texts for Files<'_> {
     ghost gives = { λ _ _ _ _. Unit {0} };
-    ghost puts = { λ _ _ _ _ _. Unit {0} };
 
     fn text(&mut self, alloc: Global, name: &str) -> Result<String, Unread> {
         if let Some(text) = self.written_text(name) {

@@ -21,7 +21,6 @@ struct Files<'a> {
 
 impl Texts for Files<'_> {
     ghost gives = { λ _ _ _ _. Unit {0} };
-    ghost puts = { λ _ _ _ _ _. Unit {0} };
 
     fn text(&mut self, alloc: Global, _name: &str) -> Result<String, Unread> {
         Ok(String::from_str(alloc, self.text)?)
