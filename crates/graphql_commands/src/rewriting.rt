@@ -84,9 +84,9 @@ fn minified_line(alloc: Global, source: &Source<'_>) -> Result<String, AllocErro
     Ok(minified)
 }
 
-/// Reads each of these files, and writes it anew where that changes it, one after another; where files are only checked, lists
+/// Reads each of these files, and writes it anew if that changes it, one after another; if files are only checked, lists
 /// those that would change. A blank file stays as it is. What is wrong with a file goes to `err` before the next one is read, and
-/// the file stays as it is. The status is 2 where memory ran out.
+/// the file stays as it is. The status is 2 if memory ran out.
 pub fn format_files<T: Texts, E: Write>(
     call: &Call<'_>,
     files: &[String],
@@ -106,7 +106,7 @@ pub fn format_files<T: Texts, E: Write>(
     worst
 }
 
-// Does with a file of this name what `format` does with it, and returns the exit status where it is so with all files.
+// Does with a file of this name what `format` does with it, and returns the exit status if it is so with all files.
 fn format_file<T: Texts>(call: &Call<'_>, name: &str, texts: &mut T, teller: &mut Teller) -> u8
     ensures { result ≤ 2 }
 {

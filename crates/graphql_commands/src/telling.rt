@@ -312,7 +312,13 @@ impl Teller {
 
     // Adds the line of an error that names no place.
     fn list_error(&mut self, source: &Source<'_>, error: &Error) {
-        match finding_of(self.alloc, source.language, source.text, source.limits, error) {
+        match finding_of(
+            self.alloc,
+            source.language,
+            source.text,
+            source.limits,
+            error,
+        ) {
             Ok(found) => self.push_line(&Line {
                 name: source.names.name,
                 range: None,
