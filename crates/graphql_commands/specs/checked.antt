@@ -1,5 +1,3 @@
--- Public: what the words of a call say, when the files are good that `gql check` finds good, and what `gql format` puts in their
--- place.
+-- Public: what the words of a call say, and when the files are good that `gql check` finds good.
 pub mod Files
 pub mod Options
-pub mod Replaced

@@ -111,15 +111,19 @@ pub fn source_of<'a>(
         (source.text.now ≡ text.now) × (source.limits ≡ call.now.limits)) }
 {
     Ok(Source {
-        // How a terminal shows the name is found only for a report.
-        names: Names {
-            shown: "",
-            name: reported_name(name),
-        },
+        names: names_of(name),
         language: read_as(alloc, call.language, name, text)?,
         limits: call.limits,
         text,
     })
+}
+
+/// The names of a file that a call names so. How a terminal shows the name is found only for a report.
+pub fn names_of(name: &str) -> Names<'_> {
+    Names {
+        shown: "",
+        name: reported_name(name),
+    }
 }
 
 /// Whether a text is empty, or has nothing but blanks, commas, line ends and comments.

@@ -1,5 +1,5 @@
 //! Reporting what is wrong with files: in reports for people, or in lines for programs.
-ghost use Rattle.std.specs.Prelude.{◌≡◌, All};
+ghost use Rattle.std.specs.Prelude.{◌≡◌, ◌≤◌, All};
 ghost use Rattle.graphql_texts.specs.checked.Diagnosed.{IsDiagnosisOf};
 ghost use Rattle.graphql_report.specs.reports.Rests.{BeginsAt};
 ghost use Rattle.graphql_commands.specs.declared.check.Found.TheVariants.{Unread as NotRead};
