@@ -30,7 +30,7 @@ pub fn try_row(row: &Row<'_>, shown: &mut Shown) -> bool {
             }
             Err(_) => false,
         },
-        "listing" | "gql" => try_listing(row, shown),
+        "listing" => try_listing(row, shown),
         _ => try_query(row, shown),
     }
 }

@@ -67,10 +67,8 @@ impl<'a> Row<'a> {
         if shown == answer {
             return End::Answered;
         }
-        match self.kind {
-            "listing" => return self.end_of_listing(shown),
-            "gql" if !self.is_free => return end_of_run(answer, shown),
-            _ => {}
+        if self.is_listing() {
+            return self.end_of_listing(shown);
         }
         match shown.strip_prefix(self.before_refused(answer)) {
             Some(rest) if rest == REFUSED && !self.is_free => End::Refused,
@@ -95,19 +93,5 @@ impl<'a> Row<'a> {
             "parse from" | "check from" => "taken within ",
             _ => "",
         }
-    }
-}
-
-// How a run of `gql` ended that was refused memory: it writes nothing to standard output, and to standard error whole lines of
-// what it writes there else, and that.
-fn end_of_run(answer: &str, shown: &str) -> End {
-    let (_, whole) = pair(answer, "! ");
-    let Some(said) = shown.strip_prefix("> ! ") else {
-        return End::Other;
-    };
-    match said.strip_suffix("gql: out of memory\n= 2") {
-        Some("") => End::Refused,
-        Some(said) if said.ends_with('\n') && whole.starts_with(said) => End::Refused,
-        _ => End::Other,
     }
 }
