@@ -1,5 +1,5 @@
 """What the programs `gql` and `gqlparse` show of the texts of rows, for tests/tables.py: a function for each call that a table names."""
-import contextlib, errno, functools, itertools, json, os, re, resource, subprocess, tempfile
+import contextlib, errno, functools, itertools, json, os, re, subprocess, tempfile
 from pathlib import Path
 
 import traced
@@ -237,47 +237,6 @@ def ignored(programs, _, row):
         _, _, err = traced.run([programs.gql, "check", "top"], made, b"", faults)
     told = err.decode()
     return "taken" if "permission denied" in told else "ignored" if "has no file named" in told else told
-
-MEMORY_RAN_OUT = "gql: out of memory\n"
-# How much more memory a run has than the one before.
-PAGE = 4096
-
-
-def within(memory, words, folder):
-    """Runs a program that has so many bytes of addresses."""
-    def bound():
-        resource.setrlimit(resource.RLIMIT_AS, (memory, memory))
-    ran = subprocess.run(words, cwd=folder, capture_output=True, text=True, stdin=subprocess.DEVNULL, preexec_fn=bound)
-    return ran.returncode, ran.stdout, ran.stderr
-
-
-def is_whole_front(part, whole):
-    return whole.startswith(part) and part[-1:] in ("", "\n")
-
-
-@one_by_one
-def in_little_memory(programs, words, text):
-    """Whether `gql` answers right of four files, of this text once to four times, in ever more memory, from what the program itself
-    needs on: with whole lines of what it writes if there is enough, and last that memory ran out; or with all. And whether memory ran
-    out after a report."""
-    with tempfile.TemporaryDirectory() as folder:
-        for number, name in enumerate("abcd", 1):
-            put(Path(folder, f"{name}.graphql"), number * text.encode())
-        os.mkfifo(Path(folder, "b.gql"))
-        words = [programs.gql, *words, "."]
-        whole = within(resource.RLIM_INFINITY, words, folder)
-        starts = functools.partial(within, words=[programs.gql, "--version"], folder=folder)
-        memory = next(it for it in itertools.count(1 << 20, PAGE) if starts(it)[0] == 0)
-        ran_out, late = 0, 0
-        while (ended := within(memory, words, folder)) != whole:
-            status, out, err = ended
-            if status != 2 or not err.endswith(MEMORY_RAN_OUT):
-                return f"{status} {err[-80:]}"
-            told = err.removesuffix(MEMORY_RAN_OUT)
-            if not is_whole_front(told, whole[2]) or not is_whole_front(out, whole[1]):
-                return f"cut: {told[-80:]}"
-            ran_out, late, memory = ran_out + 1, late + bool(told), memory + PAGE
-        return f"whole lines{', memory ran out' if ran_out else ''}{', after reports too' if late else ''}"
 
 
 # ---- Runs of gqlparse
@@ -784,7 +743,6 @@ CALLS = {
     "gql cut short": cut_short(errno.EIO),
     "gql closed": cut_short(errno.EPIPE),
     "gql unheard": unheard,
-    "gql in little memory": in_little_memory,
     "gql ignored": ignored,
     "gql spelling": spelling,
     "gql made spellings": made_spellings,
