@@ -1,9 +1,10 @@
 #!/bin/sh
 # Builds the library and runs callers of it in C, Rust and Python.
 #
-# In each language the example reads a good, a refused and a too deep text of both languages of GraphQL, and the tests of
-# its binding run. In C, each request for memory of each call is refused in turn too, and all runs again under the
-# sanitizers of addresses, leaks and undefined behaviour, where the compiler has them. A language whose tool (cc, cargo,
+# In each language the example reads a good, a rejected and a too deep text of both languages of GraphQL, and the tests of
+# its binding run. In C, each request for memory of each call is refused in turn too, what calls within a budget ask for is
+# compared with what they count, and all but that runs again under the sanitizers of addresses, leaks and undefined behaviour, if
+# the compiler has them. A language whose tool (cc, cargo,
 # python3) is missing is skipped. The last line says what passed and what was skipped; the status is 1 if anything failed.
 #
 # It isn't part of `rt ci`. Once the library is built it takes two minutes.
@@ -87,8 +88,20 @@ c_callers() {
     shift
     compiled "example$suffix" example.c "$out/libgraphql_parser.a" "$@" && reads_all "$out/example$suffix" &&
         compiled "calls$suffix" calls.c "$out/libgraphql_parser.a" "$@" && "$out/calls$suffix" &&
-        compiled "refused$suffix" refused.c -Wl,--wrap=malloc,--wrap=realloc,--wrap=free "$out/libgraphql_parser.a" "$@" &&
-        "$out/refused$suffix"
+        with_heap "refused$suffix" refused.c "$@" && "$out/refused$suffix"
+}
+
+# Compiles a caller that counts and refuses requests for memory.
+with_heap() {
+    program=$1
+    caller=$2
+    shift 2
+    compiled "$program" "$caller" -Wl,--wrap=malloc,--wrap=realloc,--wrap=free "$out/libgraphql_parser.a" "$@"
+}
+
+# What calls within a budget ask for is what they count.
+c_account() {
+    python3 -B "$here/c/account_texts.py" "$out/texts" && with_heap account account.c && "$out/account" "$out/texts"
 }
 
 c_static() {
@@ -220,6 +233,11 @@ elif ! "$here/build.sh"; then
     failed="$failed build"
 else
     language C c_static c_shared
+    if has python3; then
+        language "C's account of memory" c_account
+    else
+        skip "C's account of memory" "there is no python3"
+    fi
     if has pkg-config; then
         language "C installed" c_installed
     else

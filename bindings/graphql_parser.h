@@ -176,6 +176,12 @@ uint32_t graphql_parser_parse_schema(
     const uint8_t *text, size_t length, size_t selections, size_t values, size_t types, bool with_places,
     graphql_parser_places *places, graphql_parser_json *json);
 
+/* What a call within a budget leaves of it. A call writes it every time and doesn't read what was there. */
+typedef struct {
+    size_t bytes;        /* what is left of `memory` */
+    uint8_t heap_denied; /* 1 after GRAPHQL_PARSER_OUT_OF_MEMORY if `malloc` or `realloc` failed, else 0 */
+} graphql_parser_left;
+
 /* The same as a check and a parse, within a budget.
  *
  * memory                   how many bytes reading the text may take, by this count: those of each block that is asked for; of a
@@ -183,22 +189,23 @@ uint32_t graphql_parser_parse_schema(
  *                          operation or fragment its name's and its node's and 16 more, whatever blocks their maps ask for.
  *                          Freed bytes still count. A list that moves into a block of just its length, the JSON and what
  *                          writing it takes don't.
+ * left                     must not be null.
  *
- * For a text that needs more the status is GRAPHQL_PARSER_OUT_OF_MEMORY, as if `malloc` failed. By this count no text of n bytes
- * and t tokens, its end among them, needs more than 1104 * t + n + 57 bytes, so none more than 1105 * n + 1161; and no check of a
- * schema file, or of a request of one definition, more than 57. */
+ * For a text that needs more the status is GRAPHQL_PARSER_OUT_OF_MEMORY, as if `malloc` failed; `left->heap_denied` tells the two
+ * apart. By this count no text of n bytes and t tokens, its end among them, needs more than 1104 * t + n + 57 bytes, so none more
+ * than 1105 * n + 1161; and no check of a schema file, or of a request of one definition, more than 57. */
 uint32_t graphql_parser_check_query_within(
     const uint8_t *text, size_t length, size_t selections, size_t values, size_t types, size_t memory,
-    graphql_parser_places *places);
+    graphql_parser_places *places, graphql_parser_left *left);
 uint32_t graphql_parser_check_schema_within(
     const uint8_t *text, size_t length, size_t selections, size_t values, size_t types, size_t memory,
-    graphql_parser_places *places);
+    graphql_parser_places *places, graphql_parser_left *left);
 uint32_t graphql_parser_parse_query_within(
     const uint8_t *text, size_t length, size_t selections, size_t values, size_t types, size_t memory, bool with_places,
-    graphql_parser_places *places, graphql_parser_json *json);
+    graphql_parser_places *places, graphql_parser_json *json, graphql_parser_left *left);
 uint32_t graphql_parser_parse_schema_within(
     const uint8_t *text, size_t length, size_t selections, size_t values, size_t types, size_t memory, bool with_places,
-    graphql_parser_places *places, graphql_parser_json *json);
+    graphql_parser_places *places, graphql_parser_json *json, graphql_parser_left *left);
 
 /* The same as a check, and returns a report for people, such as
  *

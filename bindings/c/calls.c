@@ -119,9 +119,11 @@ static const char *fault_within(const row *row, const uint8_t *text, size_t leng
         size_t memory = round % 2 ? 0 : SIZE_MAX;
         graphql_parser_places places = unwritten;
         graphql_parser_json json = garbage;
+        graphql_parser_left left = {700, 7};
         uint32_t status = round < 2
-            ? row->language->check_within(text, length, limit, limit, limit, memory, &places)
-            : row->language->parse_within(text, length, limit, limit, limit, memory, false, &places, &json);
+            ? row->language->check_within(text, length, limit, limit, limit, memory, &places, &left)
+            : row->language->parse_within(text, length, limit, limit, limit, memory, false, &places, &json, &left);
+        if (left.heap_denied || left.bytes > memory) return "what is left of a budget";
         if (!memory && status == GRAPHQL_PARSER_OUT_OF_MEMORY) {
             if (!are_same(&places, &nowhere)) return "places of a budget that is used up";
             if (round > 1 && !is_nothing(&json)) return "something is handed over within a budget";
@@ -171,8 +173,9 @@ static const char *fault_of_budgets(void) {
         const uint8_t *text = (const uint8_t *)budgets[i].text;
         size_t length = strlen(budgets[i].text), memory = budgets[i].memory;
         graphql_parser_json json;
-        uint32_t check = language->check_within(text, length, 64, 64, 64, memory, NULL);
-        uint32_t parse = language->parse_within(text, length, 64, 64, 64, memory, false, NULL, &json);
+        graphql_parser_left left;
+        uint32_t check = language->check_within(text, length, 64, 64, 64, memory, NULL, &left);
+        uint32_t parse = language->parse_within(text, length, 64, 64, 64, memory, false, NULL, &json, &left);
         free(json.start);
         if (check != budgets[i].check || parse != budgets[i].parse) return budgets[i].text;
     }

@@ -1,58 +1,9 @@
 /* Has each request for memory of each call refused, one after the other, until the call meets no refusal. A call must
  * tell then that memory was refused, hand nothing over, and have given back all that it took. But a request that makes a
  * block smaller asks for no memory: where it is refused, the call must answer as if nothing had been. So may an explanation, or
- * a text written anew, in any case, since a list in it that may not double asks for less.
- *
- * Linked with --wrap for `malloc`, `realloc` and `free`, so that the functions below stand in their place, in the library
- * and in this program, and in nothing else. */
+ * a text written anew, in any case, since a list in it that may not double asks for less. */
+#include "heap.h"
 #include "texts.h"
-
-#include <stddef.h>
-
-void *__real_malloc(size_t size);
-void *__real_realloc(void *block, size_t size);
-void __real_free(void *block);
-
-static long requests_made, refused_request, live_blocks;
-static bool was_to_shrink; /* whether the refused request was to make a block smaller */
-
-/* What stands before each block: its size. */
-typedef union {
-    size_t size;
-    max_align_t aligned;
-} head;
-
-static head *head_of(void *block) {
-    return block ? (head *)block - 1 : NULL;
-}
-
-static void *block_after(head *head, size_t size) {
-    if (!head) return NULL;
-    head->size = size;
-    return head + 1;
-}
-
-void *__wrap_malloc(size_t size) {
-    if (++requests_made == refused_request) return NULL;
-    void *block = block_after(__real_malloc(sizeof(head) + size), size);
-    if (block) live_blocks++;
-    return block;
-}
-
-void *__wrap_realloc(void *block, size_t size) {
-    if (++requests_made == refused_request) {
-        was_to_shrink = block && size < head_of(block)->size;
-        return NULL;
-    }
-    void *moved = block_after(__real_realloc(head_of(block), sizeof(head) + size), size);
-    if (moved && !block) live_blocks++;
-    return moved;
-}
-
-void __wrap_free(void *block) {
-    if (block) live_blocks--;
-    __real_free(head_of(block));
-}
 
 /* The calls of a language. */
 typedef enum { CHECK, PARSE, PACK, EXPLAIN, MINIFY, FORMAT, CALLS } call;

@@ -13,9 +13,11 @@ typedef uint32_t parse_call(
     const uint8_t *, size_t, size_t, size_t, size_t, bool, graphql_parser_places *, graphql_parser_json *);
 
 /* The same within a budget. */
-typedef uint32_t check_within_call(const uint8_t *, size_t, size_t, size_t, size_t, size_t, graphql_parser_places *);
+typedef uint32_t check_within_call(
+    const uint8_t *, size_t, size_t, size_t, size_t, size_t, graphql_parser_places *, graphql_parser_left *);
 typedef uint32_t parse_within_call(
-    const uint8_t *, size_t, size_t, size_t, size_t, size_t, bool, graphql_parser_places *, graphql_parser_json *);
+    const uint8_t *, size_t, size_t, size_t, size_t, size_t, bool, graphql_parser_places *, graphql_parser_json *,
+    graphql_parser_left *);
 
 /* An explanation, a text written anew, or a pack. */
 typedef uint32_t handing_call(
@@ -144,19 +146,19 @@ static const row rows[] = {
 
 #define ROW_COUNT (sizeof rows / sizeof *rows)
 
-static const char *shown(const row *row) {
+static inline const char *shown(const row *row) {
     return row->text ? row->text : "null";
 }
 
 /* What a caller may have in a `json` or a `report` before a call: no block, and no length of one. */
 static const graphql_parser_block garbage = {(uint8_t *)1, 700};
 
-static bool is_nothing(const graphql_parser_block *block) {
+static inline bool is_nothing(const graphql_parser_block *block) {
     return !block->start && !block->length;
 }
 
 /* The text of a row, in a block of exactly its length, so that a tool that looks for reads past a block sees one; or null. */
-static uint8_t *text_of(const row *row, size_t *length) {
+static inline uint8_t *text_of(const row *row, size_t *length) {
     *length = 0;
     if (!row->text) return NULL;
     *length = strlen(row->text);
@@ -165,19 +167,19 @@ static uint8_t *text_of(const row *row, size_t *length) {
     return memcpy(text, row->text, *length);
 }
 
-static bool are_same(const graphql_parser_places *one, const graphql_parser_places *other) {
+static inline bool are_same(const graphql_parser_places *one, const graphql_parser_places *other) {
     return one->first.line == other->first.line && one->first.column == other->first.column &&
         one->second.line == other->second.line && one->second.column == other->second.column;
 }
 
 /* Whether a status comes with JSON. */
-static bool is_of_the_text(uint32_t status) {
+static inline bool is_of_the_text(uint32_t status) {
     return status != GRAPHQL_PARSER_OUT_OF_MEMORY && status != GRAPHQL_PARSER_NOT_UTF8 &&
         status != GRAPHQL_PARSER_LIMIT_TOO_LARGE;
 }
 
 /* Whether a status comes with a report. */
-static bool is_explained(uint32_t status) {
+static inline bool is_explained(uint32_t status) {
     return is_of_the_text(status) && status != GRAPHQL_PARSER_ACCEPTED;
 }
 

@@ -1,9 +1,12 @@
 -- What a call in C tells of a text: a status, and up to two places.
 -- Source: this project's choice.
-use Rattle.std.specs.Prelude.{◌≡◌, ◌≤◌, ◌⊎◌, ◌↔◌, ◌+◌, ℕ, List, [], ◌∷◌, Option, Some, None, Result, Ok, Err}
+use Rattle.std.specs.Prelude.{◌≡◌, ◌≤◌, ◌<◌, ◌⊎◌, ◌↔◌, ◌+◌, ℕ, List, [], ◌∷◌, Option, Some, None, Result, Ok, Err}
 use Rattle.std.specs.Str.{IsUtf8}
 use Rattle.graphql_tokens.specs.declared.pos.Pos.{Pos}
 use Rattle.graphql_grammar.specs.declared.error.Error.{Error}
+use Rattle.graphql_grammar.specs.declared.error.Error.TheVariants.{OutOfMemory}
+use Rattle.graphql_memory.specs.Refusals.{HeapRefused}
+use Rattle.graphql_memory.specs.declared.Memory.{Memory}
 use Rattle.graphql_parser.specs.answers.Answers.{Answers}
 use Rattle.graphql_parser.specs.answers.Language.{Language}
 use Rattle.graphql_parser.specs.answers.Memory.{most_taken}
@@ -17,6 +20,8 @@ use Rattle.graphql_parser_c.specs.declared.lending.Text.{Text}
 use Rattle.graphql_parser_c.specs.declared.lending.Told.{Told}
 use Rattle.graphql_parser_c.specs.declared.status.Status.{Status}
 use Rattle.graphql_parser_c.specs.declared.status.Status.TheVariants.{LimitTooLarge, NotUtf8}
+use Rattle.graphql_parser_c.specs.declared.status.Status.TheVariants as status
+use Rattle.graphql_parser_c.specs.declared.telling.Left.{Left}
 use Rattle.graphql_parser_c.specs.declared.telling.Place.{Place}
 use Rattle.graphql_parser_c.specs.declared.telling.Places.{Places}
 
@@ -53,9 +58,21 @@ places_of (Err error) = first_two (error_places error)
 abbrev pub IsBack : Text → Room → Told → Type 0
 IsBack text room told = (told.life ≡ text.life) × (told.at ≡ room.at)
 
--- the parser took nothing beyond its budget, and no more than its text costs
-abbrev pub IsWithin : ℕ → ℕ → ℕ → Type 0
-IsWithin budget bytes left = (left ≤ budget) × (budget ≤ left + most_taken bytes)
+-- ---- what is left of a budget
+
+-- A text of so many bytes took nothing beyond the budget, and no more than such a text costs; its answer is that memory ran out only if
+-- the heap denied it, or the budget was less than that.
+abbrev pub IsSpent : {Document : Type 0} → ℕ → Result Document Error → Memory → Memory → Type 0
+IsSpent bytes answer before after = (after.left ≤ before.left) × (before.left ≤ after.left + most_taken bytes)
+    × (answer ≡ Err OutOfMemory → HeapRefused before after ⊎ (before.left < most_taken bytes))
+
+-- What a call leaves of a budget: no more than it was, and no less than a text of so many bytes leaves. If the status says that memory
+-- ran out, the heap denied a request, or the budget was less than such a text may cost; if it says anything else, no denial is reported.
+pub record IsLeft (budget bytes number : ℕ) (left : Left) : Type 0 where
+  pub at_most : left.bytes ≤ budget
+  pub at_least : budget ≤ left.bytes + most_taken bytes
+  pub refused : number ≡ number_of status.OutOfMemory → (left.heap_denied ≡ 1) ⊎ (budget < most_taken bytes)
+  pub only : (left.heap_denied ≡ 0) ⊎ ((left.heap_denied ≡ 1) × (number ≡ number_of status.OutOfMemory))
 
 -- ---- what is told
 

@@ -9,7 +9,7 @@ ghost use Rattle.graphql_parser.specs.schemas.SchemaFile.{Definition as SchemaDe
 ghost use Rattle.graphql_parser.specs.schemas.Schemas.{schemas};
 ghost use Rattle.graphql_parser_c.specs.Documents.{executable_bytes, executable_value, service_bytes, service_value};
 ghost use Rattle.graphql_parser_c.specs.Rewriting.{LaysOut, Minifies};
-ghost use Rattle.graphql_parser_c.specs.Telling.{AnswersText, IsWithin};
+ghost use Rattle.graphql_parser_c.specs.Telling.{AnswersText, IsSpent};
 ghost use Rattle.graphql_report.specs.declared.fronts.Language.{Language as ReadAs};
 ghost use Rattle.graphql_report.specs.declared.fronts.Language.TheVariants.{Requests, Schemas};
 
@@ -51,12 +51,12 @@ pub trait Document: Drop {
     /// Reads a text.
     fn read(memory: &mut Memory, text: &str, limits: Limits) -> Result<Self>
         ensures answers { AnswersText Self.language limits text.now result }
-        ensures within { IsWithin memory.old.left (length text.now) memory.new.left };
+        ensures spent { IsSpent (length text.now) result memory.old memory.new };
 
     /// Checks a text: the same, without a tree.
     fn check(memory: &mut Memory, text: &str, limits: Limits) -> Result<()>
         ensures answers { AnswersText (checked Self.language) limits text.now result }
-        ensures within { IsWithin memory.old.left (length text.now) memory.new.left };
+        ensures spent { IsSpent (length text.now) result memory.old memory.new };
 
     /// The tree as JSON.
     fn json(&self, alloc: Global, places: Places) -> std::result::Result<Vec<u8>, AllocError>

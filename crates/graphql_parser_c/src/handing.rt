@@ -1,5 +1,5 @@
 //! What is handed over of a text, beside what is told of it.
-ghost use Rattle.std.specs.Prelude.{◌≡◌, ◌⊎◌, List, ℕ, length, Err, IfOk, IsErr, Result as SpecResult};
+ghost use Rattle.std.specs.Prelude.{◌≡◌, ◌≢◌, ◌⊎◌, List, ℕ, length, Err, IfOk, IsErr, Result as SpecResult};
 ghost use Rattle.graphql_grammar.specs.declared.error.Error.{Error as SpecError};
 ghost use Rattle.graphql_grammar.specs.declared.error.Error.TheVariants.{OutOfMemory};
 ghost use Rattle.graphql_parser.specs.answers.Language.{Language};
@@ -7,13 +7,14 @@ ghost use Rattle.graphql_parser.specs.Checking.{checked};
 ghost use Rattle.graphql_parser.specs.notation.Limits.{Limits as SpecLimits};
 ghost use Rattle.graphql_parser_c.specs.Handing.{HandsOver, IsHanded, IsNothing};
 ghost use Rattle.graphql_parser_c.specs.Statuses.{number_of, status_of};
-ghost use Rattle.graphql_parser_c.specs.Telling.{AnswersText, IsTold, IsWithin, limits_of, places_of};
+ghost use Rattle.graphql_parser_c.specs.Telling.{AnswersText, IsLeft, IsSpent, IsTold, limits_of, places_of};
 ghost use Rattle.graphql_parser_c.specs.declared.block.Block.{Block as SpecBlock};
+ghost use Rattle.graphql_parser_c.specs.declared.status.Status.TheVariants as SpecStatus;
 
 use crate::block::Block;
 use crate::documents::Document;
 use crate::status::Status;
-use crate::telling::{Places, Question, ReadableText, tell};
+use crate::telling::{Left, Places, Question, ReadableText, tell};
 use graphql_parser::{Error, Limits, Memory, Result};
 use std::alloc::{AllocError, Global};
 
@@ -36,7 +37,7 @@ pub trait Handing<D: Document> {
     /// Reads a text.
     fn read(memory: &mut Memory, text: &str, limits: Limits) -> Result<Self::Kept>
         ensures answers { AnswersText Self.language limits text.now result }
-        ensures within { IsWithin memory.old.left (length text.now) memory.new.left };
+        ensures spent { IsSpent (length text.now) result memory.old memory.new };
 
     /// Makes what is handed over of the answer for a text.
     fn make(&self, alloc: Global, text: &str, limits: Limits, answer: &Result<Self::Kept>) -> Made
@@ -99,15 +100,30 @@ fn hand_over<T>(answer: &Result<T>, made: Made, places: &mut Places, block: &mut
     tell(answer, places)
 }
 
-/// Reads a text, tells the answer, and hands over what is made of it; or tells why the text can't be read, and hands over
-/// nothing.
+// 1 if memory ran out, by the number of the status, and not only by the budget; else 0.
+fn heap_denied<T>(number: u32, answer: &Result<T>, memory: &Memory) -> u8
+    ensures only { (result ≡ 0) ⊎ ((result ≡ 1) × (number ≡ number_of SpecStatus.OutOfMemory)) }
+    ensures budget { number ≡ number_of SpecStatus.OutOfMemory →
+        (result ≡ 1) ⊎ ((answer.now ≡ Err OutOfMemory) × ¬ (memory.now.refusals ≢ 0)) }
+{
+    if number != Status::OutOfMemory.number() {
+        return 0;
+    }
+    match answer {
+        Err(Error::OutOfMemory) => u8::from(memory.heap_refused()),
+        _ => 1,
+    }
+}
+
+/// Reads a text, reports the answer, hands over what is made of it, and says what is left of the memory that the parser may
+/// take; or reports why the text can't be read, and hands over nothing.
 pub fn answer<D: Document, H: Handing<D>>(
     alloc: Global,
-    memory: &mut Memory,
     question: &Question<'_>,
     handing: &H,
     places: &mut Places,
     handed: &mut Block,
+    left: &mut Left,
 ) -> u32
     ensures told { IsTold H.language
         (limits_of question.now.bounds.0 question.now.bounds.1 question.now.bounds.2)
@@ -116,17 +132,24 @@ pub fn answer<D: Document, H: Handing<D>>(
         (limits_of question.now.bounds.0 question.now.bounds.1 question.now.bounds.2) question.now.text.now)
         (limits_of question.now.bounds.0 question.now.bounds.1 question.now.bounds.2)
         question.now.text.now result handed.new }
-    ensures within { IsWithin memory.old.left (length question.now.text.now) memory.new.left }
+    ensures left { IsLeft question.now.bounds.3 (length question.now.text.now) result left.new }
 {
     let ReadableText { text, limits } = match question.readable() {
         Ok(readable) => readable,
         Err(status) => {
             *places = Places::none();
             *handed = Block::nothing();
+            *left = Left::all_of(question.bounds.3);
             return status.number();
         }
     };
-    let answer = H::read(memory, text, limits);
+    let mut memory = Memory::with_budget(alloc, question.bounds.3);
+    let answer = H::read(&mut memory, text, limits);
     let made = made_of::<D, H>(alloc, handing, text, limits, &answer);
-    hand_over(&answer, made, places, handed).number()
+    let number = hand_over(&answer, made, places, handed).number();
+    *left = Left {
+        bytes: memory.left(),
+        heap_denied: heap_denied(number, &answer, &memory),
+    };
+    number
 }

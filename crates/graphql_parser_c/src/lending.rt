@@ -52,15 +52,14 @@ impl Model for Room {
     ghost also_owns = { λ room. is_room room.at };
 }
 
-/// What a call tells: the number of a status, and places, where there was room for them; and with that, the text is the
-/// caller's own again. `left` is what the parser left of the bytes that it may take.
+/// What a call reports: the number of a status, and places, if there was room for them; and with that, the text is the
+/// caller's own again.
 #[repr(C)]
 pub struct Told {
     pub number: u32,
     pub ghost life: { ℕ },
     pub ghost at: { Ptr },
     pub ghost places: { Places },
-    pub ghost left: { ℕ },
 }
 
 impl Model for Told {
@@ -101,9 +100,9 @@ impl Lent {
 
 impl Told {
     /// Writes the places where there is room for them, and gives back what was lent.
-    pub fn of(number: u32, places: Places, room: Room, lent: Lent, _left: usize) -> Told
+    pub fn of(number: u32, places: Places, room: Room, lent: Lent) -> Told
         ensures { (result.number ≡ number) × (result.places ≡ places) × (result.at ≡ room.at) ×
-            (result.life ≡ lent.life) × (result.left ≡ _left) }
+            (result.life ≡ lent.life) }
     {
         let Lent { start: _ } = lent;
         let Room { at } = room;

@@ -31,7 +31,7 @@ ghost use Rattle.graphql_report.specs.declared.fronts.Language.TheVariants.{Requ
 ghost use Rattle.graphql_parser_c.specs.Handing.{IsAnswered, places_asked};
 ghost use Rattle.graphql_parser_c.specs.Packing.{IsPacked};
 ghost use Rattle.graphql_parser_c.specs.Rewriting.{IsRewritten, LaysOut, Minifies};
-ghost use Rattle.graphql_parser_c.specs.Telling.{IsBack, IsTold, IsWithin, limits_of};
+ghost use Rattle.graphql_parser_c.specs.Telling.{IsBack, IsLeft, IsTold, limits_of};
 
 mod block;
 mod calls;
@@ -46,7 +46,7 @@ mod telling;
 mod writing;
 
 pub use block::Block;
-use calls::{call, check};
+use calls::{call, call_within, check, check_within};
 use explaining::Report;
 use graphql_parser::types::{ExecutableDocument, ServiceDocument};
 pub use lending::{Room, Text, Told};
@@ -54,7 +54,7 @@ use packing::Packed;
 use rewriting::{Formatted, Minified};
 use std::alloc::Global;
 use telling::Bounds;
-pub use telling::{Place, Places};
+pub use telling::{Left, Place, Places};
 use writing::Json;
 
 /// The version of the library: its first number times 10000, its second times 100, and its third, together.
@@ -118,14 +118,15 @@ pub extern "C" fn graphql_parser_check_query_within(
     types: usize,
     memory: usize,
     places: Room,
+    left: &mut Left,
 ) -> Told
     ensures told { IsTold (checked requests) (limits_of selections values types) text.bytes
         result.number result.places }
     ensures back { IsBack text places result }
-    ensures within { IsWithin memory (length text.bytes) result.left }
+    ensures left { IsLeft memory (length text.bytes) result.number left.new }
 {
     let bounds = Bounds(selections, values, types, memory);
-    check::<ExecutableDocument>(alloc, text, bounds, places)
+    check_within::<ExecutableDocument>(alloc, text, bounds, places, left)
 }
 
 /// Checks a schema file as [`graphql_parser_check_schema`] does, within a budget as [`graphql_parser_check_query_within`] has.
@@ -138,14 +139,15 @@ pub extern "C" fn graphql_parser_check_schema_within(
     types: usize,
     memory: usize,
     places: Room,
+    left: &mut Left,
 ) -> Told
     ensures told { IsTold (checked schemas) (limits_of selections values types) text.bytes
         result.number result.places }
     ensures back { IsBack text places result }
-    ensures within { IsWithin memory (length text.bytes) result.left }
+    ensures left { IsLeft memory (length text.bytes) result.number left.new }
 {
     let bounds = Bounds(selections, values, types, memory);
-    check::<ServiceDocument>(alloc, text, bounds, places)
+    check_within::<ServiceDocument>(alloc, text, bounds, places, left)
 }
 
 /// Reads a request as [`graphql_parser_check_query`] does, and hands over its tree as JSON, or its error.
@@ -211,16 +213,25 @@ pub extern "C" fn graphql_parser_parse_query_within(
     with_places: bool,
     places: Room,
     json: &mut Block,
+    left: &mut Left,
 ) -> Told
     ensures told { IsTold requests (limits_of selections values types) text.bytes result.number
         result.places }
     ensures handed { IsAnswered requests (executable_value (places_asked with_places))
         (limits_of selections values types) text.bytes result.number json.new }
     ensures back { IsBack text places result }
-    ensures within { IsWithin memory (length text.bytes) result.left }
+    ensures left { IsLeft memory (length text.bytes) result.number left.new }
 {
     let bounds = Bounds(selections, values, types, memory);
-    call::<ExecutableDocument, Json>(alloc, text, bounds, &Json { with_places }, places, json)
+    call_within::<ExecutableDocument, Json>(
+        alloc,
+        text,
+        bounds,
+        &Json { with_places },
+        places,
+        json,
+        left,
+    )
 }
 
 /// Reads a schema file as [`graphql_parser_parse_schema`] does, within a budget as [`graphql_parser_parse_query_within`] has.
@@ -235,16 +246,25 @@ pub extern "C" fn graphql_parser_parse_schema_within(
     with_places: bool,
     places: Room,
     json: &mut Block,
+    left: &mut Left,
 ) -> Told
     ensures told { IsTold schemas (limits_of selections values types) text.bytes result.number
         result.places }
     ensures handed { IsAnswered schemas (service_value (places_asked with_places))
         (limits_of selections values types) text.bytes result.number json.new }
     ensures back { IsBack text places result }
-    ensures within { IsWithin memory (length text.bytes) result.left }
+    ensures left { IsLeft memory (length text.bytes) result.number left.new }
 {
     let bounds = Bounds(selections, values, types, memory);
-    call::<ServiceDocument, Json>(alloc, text, bounds, &Json { with_places }, places, json)
+    call_within::<ServiceDocument, Json>(
+        alloc,
+        text,
+        bounds,
+        &Json { with_places },
+        places,
+        json,
+        left,
+    )
 }
 
 /// Checks a request as [`graphql_parser_check_query`] does, and hands over a report of its error for people.

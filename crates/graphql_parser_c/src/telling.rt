@@ -54,6 +54,28 @@ impl Places {
     }
 }
 
+/// What a call within a budget of memory leaves of it.
+#[repr(C)]
+#[derive(Drop)]
+pub struct Left {
+    /// How many bytes of the budget are left, by the count of `Memory`.
+    pub bytes: usize,
+    /// 1 if memory ran out and not only by the budget, since the heap denied a request; else 0.
+    pub heap_denied: u8,
+}
+
+impl Left {
+    /// What is left of these bytes before any is taken.
+    pub fn all_of(bytes: usize) -> Left
+        ensures { (result.bytes ≡ bytes) × (result.heap_denied ≡ 0) }
+    {
+        Left {
+            bytes,
+            heap_denied: 0,
+        }
+    }
+}
+
 /// What bounds a call: how deep selection sets, values and types may nest, in this order, and how many bytes of memory the
 /// parser may take.
 #[derive(Clone, Copy)]

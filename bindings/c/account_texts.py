@@ -1,0 +1,34 @@
+#!/usr/bin/env python3
+"""Writes the texts of the tables of tests/ and crates/conformance, of the benchmarks, and random ones: account_texts.py FILE
+
+Before each stands its length in four bytes, the lowest first. account.c reads them. Longer texts of tables than 100,000 bytes
+are left out."""
+import sys
+from pathlib import Path
+
+ROOT = Path(__file__).resolve().parents[2]
+sys.path.insert(0, str(ROOT / "tests"))
+from random_texts import SEED, Source
+from tables import lines_in
+
+COUNT = 500
+LONGEST = 100_000
+
+
+def texts():
+    for folder in (ROOT / "crates/conformance/data/tables", ROOT / "tests/tables"):
+        for file in sorted(folder.glob("*.rows")):
+            for number, table in enumerate(file.read_text().removeprefix("== ").split("\n== ")):
+                call, _, rows = table.partition("\n")
+                if call.split(" ")[0] in ("query", "schema", "report", "formatted", "minified", "printed", "json", "gql"):
+                    read = (row.text.encode(errors="surrogatepass") for row in lines_in(file, number, call, rows))
+                    yield from (text for text in read if len(text) <= LONGEST)
+    yield (ROOT / "bench/merged.graphqls").read_bytes()
+    for language in ("query", "schema"):
+        source = Source(language, SEED)
+        yield from (source.next()[0] for _ in range(COUNT))
+
+
+with open(sys.argv[1], "wb") as file:
+    for text in texts():
+        file.write(len(text).to_bytes(4, "little") + text)
