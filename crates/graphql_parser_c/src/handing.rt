@@ -1,4 +1,4 @@
-//! What is handed over of a text, beside what is told of it.
+//! What is handed over of a text, beside what is reported of it.
 ghost use Rattle.std.specs.Prelude.{◌≡◌, ◌≢◌, ◌⊎◌, List, ℕ, length, Err, IfOk, IsErr, Result as SpecResult};
 ghost use Rattle.graphql_grammar.specs.declared.error.Error.{Error as SpecError};
 ghost use Rattle.graphql_grammar.specs.declared.error.Error.TheVariants.{OutOfMemory};
@@ -82,7 +82,7 @@ fn made_of<D: Document, H: Handing<D>>(
     }
 }
 
-// Tells an answer and hands over what was made of it; or, where memory was refused to that, tells this alone and hands over
+// Reports an answer and hands over what was made of it; or, where memory was refused to that, reports this alone and hands over
 // nothing.
 fn hand_over<T>(answer: &Result<T>, made: Made, places: &mut Places, block: &mut Block) -> Status
     requires { answer.now ≡ Err OutOfMemory → IsErr made }

@@ -78,7 +78,7 @@ impl Text {
 }
 
 impl Lent {
-    /// The bytes, of which there are so many.
+    /// The bytes, of which there are `count`.
     pub fn bytes(&self, count: usize) -> &[u8]
         requires { count ≡ length self.now.bytes }
         ensures { result.now ≡ self.now.bytes }

@@ -1,8 +1,8 @@
 //! `graphql_parser` for callers that are not Rattle: a static library with eight functions of C for each language.
 //!
-//! A check tells whether a text is a request or a schema file, by a status and up to two places, and keeps no tree. A
-//! parse tells the same, and hands over the tree, or the error, as JSON. An explanation tells the same, and hands over
-//! a report of the error for people. A pack tells the same as a parse, and hands over the tree as bytes for a wrapper
+//! A check reports whether a text is a request or a schema file, by a status and up to two places, and keeps no tree. A
+//! parse reports the same, and hands over the tree, or the error, as JSON. An explanation reports the same, and hands over
+//! a report of the error for people. A pack reports the same as a parse, and hands over the tree as bytes for a wrapper
 //! that makes trees of its own. A text that is accepted is minified or formatted. Checks and parses within a budget of memory
 //! stand beside these.
 //! `bindings/graphql_parser.h` declares the functions and says what a caller owes;
@@ -65,7 +65,7 @@ pub extern "C" fn graphql_parser_version() -> u32
     10000
 }
 
-/// Tells whether a text is a request: gives the number of a `Status`, and writes the places that it is about.
+/// Reports whether a text is a request: returns the number of a `Status`, and writes the places that it is about.
 ///
 /// `text` is in UTF-8. `selections`, `values` and `types` say how deep selection sets, values and types may nest, each at
 /// most 256. `places`, if it isn't null, is written on every call: 0:0 stands where there is no place. No tree is
@@ -87,7 +87,7 @@ pub extern "C" fn graphql_parser_check_query(
     check::<ExecutableDocument>(alloc, text, bounds, places)
 }
 
-/// Tells whether a text is a schema file, as [`graphql_parser_check_query`] does of a request.
+/// Reports whether a text is a schema file, as [`graphql_parser_check_query`] does of a request.
 ///
 /// A schema file has no selection sets: `selections` makes no difference, but it may not be over 256 either.
 #[unsafe(no_mangle)]
@@ -108,7 +108,7 @@ pub extern "C" fn graphql_parser_check_schema(
 }
 
 /// Checks a request as [`graphql_parser_check_query`] does, and takes `memory` bytes at most, counted as `Memory` of
-/// `graphql_parser` does. A text that needs more is told as one for which memory was refused.
+/// `graphql_parser` does. A text that needs more is reported as one for which memory was refused.
 #[unsafe(no_mangle)]
 pub extern "C" fn graphql_parser_check_query_within(
     alloc: Global,
@@ -153,7 +153,7 @@ pub extern "C" fn graphql_parser_check_schema_within(
 /// Reads a request as [`graphql_parser_check_query`] does, and hands over its tree as JSON, or its error.
 ///
 /// The JSON is that of `graphql_json`: for an accepted text `request_json`, with the places that it writes where
-/// `with_places` is true; for a refused one `error_json`. It is handed over in a block of the program's `malloc`, which
+/// `with_places` is true; for a rejected one `error_json`. It is handed over in a block of the program's `malloc`, which
 /// the caller gives back by `free`. Where memory was refused, a limit is too large or the text isn't UTF-8, it is null
 /// and has no bytes. `json` is written on every call, and what stood there isn't looked at.
 #[unsafe(no_mangle)]

@@ -8,7 +8,7 @@ use crate::handing::{Handing, Made};
 use graphql_parser::{Limits, Memory, Result};
 use std::alloc::Global;
 
-/// Hands over the bytes of the tree, and nothing of a text that is refused.
+/// Hands over the bytes of the tree, and nothing of a text that is rejected.
 pub struct Packed;
 
 impl<D: Document> Handing<D> for Packed {

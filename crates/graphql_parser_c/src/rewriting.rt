@@ -9,7 +9,7 @@ use crate::handing::{Handing, Made};
 use graphql_parser::{Limits, Memory, Result};
 use std::alloc::Global;
 
-/// Hands over the text without what isn't needed in it, and nothing of one that is refused.
+/// Hands over the text without what isn't needed in it, and nothing of one that is rejected.
 pub struct Minified;
 
 impl<D: Document> Handing<D> for Minified {
@@ -34,7 +34,7 @@ impl<D: Document> Handing<D> for Minified {
     }
 }
 
-/// Hands over the text laid out anew, and nothing of one that is refused.
+/// Hands over the text laid out anew, and nothing of one that is rejected.
 pub struct Formatted;
 
 impl<D: Document> Handing<D> for Formatted {

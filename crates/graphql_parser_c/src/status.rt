@@ -17,7 +17,7 @@ pub enum Status {
     LimitTooLarge = 3,
     /// The text has no tree: the token at the first place is the first with which no document goes on.
     Syntax = 4,
-    /// The text has no tree within the limits, and its refused token could go on without them.
+    /// The text has no tree within the limits, and its rejected token could go on without them.
     RecursionLimitExceeded = 5,
     /// A request has an operation without a name beside another: at the first place, and at the second.
     MultipleOperations = 6,

@@ -1,4 +1,4 @@
-//! How an answer is told: its status and its places.
+//! How an answer is reported: its status and its places.
 ghost use Rattle.std.specs.Prelude.{◌≡◌, MatchResult};
 ghost use Rattle.std.specs.Str.{IsUtf8};
 ghost use Rattle.graphql_parser.specs.notation.Limits.{IsAllowed};
@@ -114,7 +114,7 @@ impl<'a> Question<'a> {
     }
 }
 
-/// Tells an answer: gives its status, and writes its places.
+/// Reports an answer: returns its status, and writes its places.
 pub fn tell<D>(answer: &Result<D>, places: &mut Places) -> Status
     ensures status { result ≡ status_of answer.now }
     ensures places { places.new ≡ places_of answer.now }
