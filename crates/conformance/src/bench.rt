@@ -10,7 +10,7 @@
 //! `bench texts` and `bench editing` take the texts of a workload, which `bench/make_texts.py` makes of a seed, and a
 //! number of rounds. They print a digest of all that was answered, and no times. In each round of `texts` the names in
 //! all texts are changed, and what the file asks for is done with each; so no text is read twice. In each round of
-//! `editing` a key is pressed in each text, and all that is wrong with it is told.
+//! `editing` a key is pressed in each text, and all that is wrong with it is reported.
 //!
 //! Nothing is claimed of any but that it is safe and ends.
 mod digest;

@@ -21,7 +21,7 @@ const FAR: Pos = Pos {
 ///
 /// - `printed`: what an error prints, and its places as JSON; and whether a copy is equal and shown as the error is
 /// - `equality`: how two errors compare
-/// - `places`: what the places of an error give when they are taken from the front, by `next`, and from the back, by
+/// - `places`: what the places of an error return when they are taken from the front, by `next`, and from the back, by
 ///   `back`: after each place those that are left
 pub fn write_part(shown: &mut Shown, part: &str, row: &str) {
     let (what, rest) = match part {
@@ -130,7 +130,7 @@ fn write_unless_alike(shown: &mut Shown, error: &Error, copy: &Error) {
     }
 }
 
-// What places give when they are taken from both ends, and what is left after each.
+// What places return when they are taken from both ends, and what is left after each.
 fn write_steps(shown: &mut Shown, mut places: ErrorPositions, steps: &str) {
     shown.word("all");
     write_left(shown, &places);

@@ -32,7 +32,7 @@ fn write_missing(shown: &mut Shown, document: &ServiceDocument, parts: &str) {
     }
 }
 
-/// Writes how many definitions a file has of so many types and enums in turn, if each of them is read; and else those that
+/// Writes how many definitions a file has of this many types and enums in turn, if each of them is read; and else those that
 /// are.
 pub fn write_long_file(shown: &mut Shown, count: &str) {
     let mut text = Shown::new(shown.alloc(), true);

@@ -1,5 +1,5 @@
 //! Tables of cases with expected answers: tokens, values, requests and schema files, what the calls of their trees and
-//! of their errors give, their JSON, what they are minified and formatted to, what their trees are printed as, the
+//! of their errors return, their JSON, what they are minified and formatted to, what their trees are printed as, the
 //! places where reading goes on after a mistake, positions and edits, what an editor asks of a text, and calls that
 //! run out of memory. The answers were worked out by hand from the rules of `docs/GRAMMAR.md` and the Language Server
 //! Protocol 3.17, or come from where a table says, and were never taken from what the crates print: only the digest

@@ -62,7 +62,7 @@ fn read_as(reading: &str) -> Option<(Language, Limits)> {
     Some((language, limits_of(limits)?))
 }
 
-// The error of a text, if it is refused.
+// The error of a text, if it is rejected.
 fn refused(alloc: Global, language: Language, text: &str, limits: Limits) -> Option<Error> {
     match language {
         Language::Requests => parse_query_limited(alloc, text, limits).err(),

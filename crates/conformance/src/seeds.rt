@@ -5,7 +5,7 @@ use graphql_parser::value::Name;
 use graphql_parser::{IndexMap, parse_query};
 use std::alloc::{AllocError, Global};
 
-/// Writes what is said of the seeds of requests with so many definitions.
+/// Writes what is said of the seeds of requests with this many definitions.
 ///
 /// - `changed`: whether the seed is the default, and how many of the names change it, if no more than all of them
 /// - `found`: how many of the names are found where they stand, in the request and in a clone of it with the same seed
@@ -112,7 +112,7 @@ fn put(map: &mut NameMap<usize>, names: [&str; 2]) -> Result<(), AllocError> {
     Ok(())
 }
 
-// A request of so many definitions: two operations, then fragments. Their names are `A0`, `A1` and so on, but for that
+// A request of this many definitions: two operations, then fragments. Their names are `A0`, `A1` and so on, but for that
 // of one definition, which is `B` and its index.
 fn write_request(text: &mut Shown, count: usize, changed: usize) {
     for index in 0..count {

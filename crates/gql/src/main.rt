@@ -46,7 +46,7 @@ fn main(rt: HostRuntime) -> ExitCode {
 // How many bytes are read at once.
 const PART: usize = 65536;
 
-// Is a language server for the client at standard input and output until it says `exit`, or one of them ends; gives the exit status.
+// Is a language server for the client at standard input and output until it says `exit`, or one of them ends; returns the exit status.
 fn serve(rt: &HostRuntime) -> u8 {
     let mut input = rt.stdin();
     let mut server = Server::new(rt.alloc());

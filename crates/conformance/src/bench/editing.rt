@@ -1,4 +1,4 @@
-//! Key strokes: a text is changed, and all that is wrong with it is told, as a language server does it.
+//! Key strokes: a text is changed, and all that is wrong with it is reported, as a language server does it.
 use super::texts::{Text, read_texts};
 use crate::parts::document_of;
 use crate::random::Random;
@@ -20,7 +20,7 @@ const BLANKS: usize = 4;
 // What is typed in comments.
 const KEYS: [&str; 4] = ["x", "é", "日", "😀"];
 
-/// Presses so many keys in each of the texts of a file. Gives a digest of all that is told after each.
+/// Presses this many keys in each of the texts of a file. Returns a digest of all that is reported after each.
 pub fn digest_of(alloc: Global, file: &str, strokes: u32) -> Result<u64, AllocError> {
     let mut texts = Vec::new(alloc);
     let mut edited = Vec::new(alloc);

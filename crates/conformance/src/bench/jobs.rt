@@ -14,7 +14,7 @@ use graphql_printer::{
 use graphql_report::{Language, explain};
 use std::alloc::{AllocError, Global};
 
-/// Changes all texts of a file and reads them, in so many rounds. Gives the digest of all answers.
+/// Changes all texts of a file and reads them, in this many rounds. Returns the digest of all answers.
 pub fn digest_of(alloc: Global, file: &str, rounds: u32) -> Result<u64, AllocError> {
     let mut texts = Vec::new(alloc);
     let mut random = read_texts(file, &mut texts)?;

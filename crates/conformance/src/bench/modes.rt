@@ -72,13 +72,13 @@ pub fn count_memory(rt: &HostRuntime, mode: Mode, text: &str) -> io::Result<()> 
     println!(rt; "memory {taken} {answer}")
 }
 
-// What one round gives.
+// What one round returns.
 #[derive(Clone, Copy)]
 enum Seen {
     // How many tokens there are, and a number that hangs on each of them.
     Tokens { count: usize, mixed: usize },
     Verdict(bool),
-    // How many bytes were written; 0 for a text that is refused.
+    // How many bytes were written; 0 for a text that is rejected.
     Written(usize),
 }
 

@@ -91,7 +91,7 @@ impl Parser {
         }
     }
 
-    /// What its check answers to a text, and the token at which the text is refused, if it is refused at one.
+    /// What its check answers to a text, and the token at which the text is rejected, if it is rejected at one.
     pub fn checked_to<'a>(self, alloc: Global, text: &'a str) -> (Answer<()>, Option<Token<'a>>) {
         let memory = &mut Memory::new(alloc);
         match self {
@@ -101,7 +101,7 @@ impl Parser {
     }
 
     /// Writes what is seen of the answer to a text, where nothing was written before. The call with limits, at the
-    /// default, and the one over fresh tokens have to give the same.
+    /// default, and the one over fresh tokens have to return the same.
     pub fn write_each_call(self, shown: &mut Shown, view: &str, text: &str) {
         self.write(shown, view, "", text);
         let mut limited = Shown::new(shown.alloc(), true);
@@ -116,7 +116,7 @@ impl Parser {
     }
 }
 
-// Whether a check answers as the parser: both accept, or both give the same error.
+// Whether a check answers as the parser: both accept, or both return the same error.
 fn are_alike<T>(answer: &Answer<T>, checked: &Answer<()>) -> bool {
     match (answer, checked) {
         (Ok(_), Ok(())) => true,

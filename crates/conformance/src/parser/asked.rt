@@ -5,21 +5,21 @@ use super::{budgets, hostile, taken};
 use crate::rows::{Shown, pair, three_numbers};
 use graphql_parser::Limits;
 
-/// Writes what a parser gives that is asked so.
+/// Writes what a parser returns that is asked so.
 ///
-/// - `whole`: what each of its calls gives, the tree with all places or the error
+/// - `whole`: what each of its calls returns, the tree with all places or the error
 /// - `accepted`: the same, where of an accepted text nothing is said but that it is
 /// - `taken`: whether fresh tokens of a text are accepted, and how many are taken
 /// - `in turn`: what is given over the tokens that are left, in turn until they have ended. The number of tokens that are
 ///   passed first stands before the text, with ` in ` between them.
 /// - `limited`: whether a text is accepted within limits. They stand before it, with ` in ` between them.
 /// - `budgets`: what is answered as the budget of memory grows
-/// - `beginnings`: how many beginnings a text has, if each of them is refused late or not at all
-/// - `cuts`: after how many of its tokens a line may end, if it is refused at its end after any other
-/// - `quotes`: how many tokens a text has, if a quote before any of them but the end is refused at that quote
-/// - `lines`: how many tokens are taken of a text, if it gives the same when its tokens stand on lines of their own
+/// - `beginnings`: how many beginnings a text has, if each of them is rejected late or not at all
+/// - `cuts`: after how many of its tokens a line may end, if it is rejected at its end after any other
+/// - `quotes`: how many tokens a text has, if a quote before any of them but the end is rejected at that quote
+/// - `lines`: how many tokens are taken of a text, if it returns the same when its tokens stand on lines of their own
 /// - `short texts`: how many of the texts are accepted that are at most four of these spellings with blanks between them,
-///   and how many are refused
+///   and how many are rejected
 /// - the name of a view: what is looked at in the tree. Before the text may stand the name that is asked for, with ` in `
 ///   between them.
 pub fn write_asked(shown: &mut Shown, parser: Parser, asked: &str, text: &str) {

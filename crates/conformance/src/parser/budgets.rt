@@ -13,7 +13,7 @@ const STEPS: usize = 1024;
 const STEP: usize = 64;
 
 /// Writes the different answers of a parser in budgets from none to 64 KiB, in turn; and then those of its check. An answer
-/// is told so that takes more than is promised, that runs out of as much, or that blames the heap.
+/// is reported so that takes more than is promised, that runs out of as much, or that blames the heap.
 pub fn write_answers(shown: &mut Shown, parser: Parser, text: &str) {
     write_in_turn(shown, parser, false, text);
     shown.word("; checked ");
@@ -53,7 +53,7 @@ fn write_within(shown: &mut Shown, parser: Parser, is_check: bool, budget: usize
     }
 }
 
-/// The error of a parser or of its check within a budget and the default limits, if it gives one.
+/// The error of a parser or of its check within a budget and the default limits, if it returns one.
 pub fn refused_within(
     memory: &mut Memory,
     parser: Parser,

@@ -11,7 +11,7 @@ fn is_refused_at(answer: &Shown, place: Pos) -> bool {
     answer.whole().is_some() && answer.whole() == wanted.whole()
 }
 
-/// Writes how many beginnings a text has, if each of them is accepted, breaks a rule, or is refused at one of its
+/// Writes how many beginnings a text has, if each of them is accepted, breaks a rule, or is rejected at one of its
 /// last two tokens; and else those that are not.
 pub fn write_beginnings(shown: &mut Shown, parser: Parser, text: &str) {
     let mut count = 0usize;
@@ -44,7 +44,7 @@ fn write_unless_late(shown: &mut Shown, parser: Parser, text: &str) {
     }
 }
 
-/// Writes after how many of its tokens a line may end, and how many it has, if it is refused at its end when
+/// Writes after how many of its tokens a line may end, and how many it has, if it is rejected at its end when
 /// it is cut off after any other; and else the answers that are not so.
 pub fn write_cuts(shown: &mut Shown, parser: Parser, text: &str) {
     shown.word("after");
@@ -75,7 +75,7 @@ fn write_cut(shown: &mut Shown, parser: Parser, front: &str, count: usize) {
     }
 }
 
-/// Writes how many tokens a text has, if a quote before any of them but the end is refused at that quote; and else the
+/// Writes how many tokens a text has, if a quote before any of them but the end is rejected at that quote; and else the
 /// texts that are not.
 pub fn write_quotes(shown: &mut Shown, parser: Parser, text: &str) {
     let mut count = 0usize;
@@ -130,7 +130,7 @@ fn write_both(shown: &mut Shown, one: &str, other: &str) {
 }
 
 /// Writes how many of the texts are accepted that are at most four of these spellings with blanks between them,
-/// how many are refused, and how many have another answer.
+/// how many are rejected, and how many have another answer.
 pub fn write_short_texts(shown: &mut Shown, parser: Parser, spellings: &str) {
     let (mut taken, mut refused, mut other) = (0usize, 0usize, 0usize);
     let count = spellings.split_whitespace().count();
@@ -149,7 +149,7 @@ pub fn write_short_texts(shown: &mut Shown, parser: Parser, spellings: &str) {
     shown.word(" others");
 }
 
-// Whether the text of this index among those of so many spellings is accepted or refused, if it is one of the two.
+// Whether the text of this index among those of this many spellings is accepted or rejected, if it is one of the two.
 fn is_taken(
     shown: &Shown,
     parser: Parser,
@@ -168,7 +168,7 @@ fn is_taken(
     }
 }
 
-// The text of this index among those of so many spellings.
+// The text of this index among those of this many spellings.
 fn write_spelled(shown: &mut Shown, spellings: &str, length: u32, index: usize) {
     let count = spellings.split_whitespace().count();
     let mut rest = index;

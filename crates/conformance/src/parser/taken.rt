@@ -6,7 +6,7 @@ use graphql_parser::Error;
 use graphql_parser::lexer::Tokens;
 use std::alloc::Global;
 
-/// Writes what a parser gives over fresh tokens of a text, and how many it takes.
+/// Writes what a parser returns over fresh tokens of a text, and how many it takes.
 pub fn write_counted(shown: &mut Shown, parser: Parser, view: &str, text: &str) {
     let (tokens, others) = (&mut Tokens::new(text), &mut Tokens::new(text));
     write_taken(shown, parser, view, tokens, others);
@@ -41,7 +41,7 @@ fn write_taken(
     shown.item(", taken ", &tokens.taken());
 }
 
-/// Writes what is given in turn until the tokens have ended, when so many were passed first.
+/// Writes what is given in turn until the tokens have ended, when this many were passed first.
 pub fn write_in_turn(shown: &mut Shown, parser: Parser, passed: usize, text: &str) {
     let (tokens, others) = (&mut Tokens::new(text), &mut Tokens::new(text));
     for _ in 0..passed {

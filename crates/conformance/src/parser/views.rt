@@ -1,4 +1,4 @@
-//! What the calls of a tree give, as text.
+//! What the calls of a tree return, as text.
 use crate::rows::Shown;
 use crate::trees::{Written, write_default_value, write_directives, write_value};
 use graphql_parser::types::{
@@ -42,7 +42,7 @@ pub const VIEWS: [&str; 13] = [
     "field viewed",
 ];
 
-/// What the parser of a language gives.
+/// What the parser of a language returns.
 pub trait Document: Drop {
     /// Writes what is seen of it; `asked` is the name that is looked up in a request.
     fn write_view(&self, shown: &mut Shown, view: &str, asked: &str);

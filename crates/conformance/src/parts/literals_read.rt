@@ -10,7 +10,7 @@ use graphql_reading::parser::{Parser, Reading, Refusal};
 use graphql_tokens::lexer::Tokens;
 
 /// Writes what stands first in a text, arguments or else a value, where values may nest so deep as the call says, as `read 64`; and
-/// the place of the next token after it, or of the refused one.
+/// the place of the next token after it, or of the rejected one.
 pub fn write_read(shown: &mut Shown, what: &str, text: &str) {
     let (_, depth) = pair(what, "read ");
     let Ok(depth) = depth.parse::<usize>() else {

@@ -1,4 +1,4 @@
-//! What the derives of places and positioned nodes give, as laws and on a few values.
+//! What the derives of places and positioned nodes return, as laws and on a few values.
 ghost use Rattle.std.specs.Prelude.{◌≡◌, ◌<◌, ◌⊎◌, ◌↔◌, IsTrue};
 
 use crate::compared::hash_of;

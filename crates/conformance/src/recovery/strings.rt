@@ -17,7 +17,7 @@ pub fn unclosed_from(shown: &mut Shown, row: &str) {
     }
 }
 
-/// Of a schema file that is refused at an offset, which stands before it, with ` | ` between them: where the block string
+/// Of a schema file that is rejected at an offset, which stands before it, with ` | ` between them: where the block string
 /// begins that nothing closes, and where the one probably does that isn't closed.
 pub fn opening(shown: &mut Shown, row: &str) {
     let (refused, text) = pair(row, " | ");

@@ -34,7 +34,7 @@ pub fn attempts<A: Attempt>(alloc: Global, attempted: &mut A) -> Result<bool, Al
     Ok(true)
 }
 
-/// Takes all memory but so many bytes, and holds it until the answer is let go; None where memory has no end. Attempts that
+/// Takes all memory but this many bytes, and holds it until the answer is let go; None where memory has no end. Attempts that
 /// are made meanwhile have little left to take.
 pub fn all_but(alloc: Global, bytes: usize) -> Result<Option<Blocks>, AllocError> {
     let mut blocks = Vec::with_capacity(alloc, BLOCKS)?;

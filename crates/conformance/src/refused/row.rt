@@ -27,7 +27,7 @@ pub struct Row<'a> {
 pub enum End {
     Answered,
     Refused,
-    /// Only `gqlparse` tells whether memory was refused inside the parser or outside of it.
+    /// Only `gqlparse` reports whether memory was refused inside the parser or outside of it.
     RefusedOutside,
     Other,
 }
@@ -61,7 +61,7 @@ impl<'a> Row<'a> {
         self.is_listing() || !self.is_free
     }
 
-    /// How the call ended that may give this answer.
+    /// How the call ended that may return this answer.
     pub fn end(&self, answer: &str, shown: &str) -> End {
         let (answer, shown) = (answer.trim_ascii(), shown.trim_ascii());
         if shown == answer {

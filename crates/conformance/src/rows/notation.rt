@@ -76,7 +76,7 @@ fn write_inside(shown: &mut Shown, inside: &str) {
     }
 }
 
-// Adds the text so many times, each time with its number in place of each №.
+// Adds the text this many times, each time with its number in place of each №.
 fn write_times(shown: &mut Shown, count: usize, text: &str) {
     let mut plain = Shown::new(shown.alloc(), true);
     write_plain(&mut plain, text);

@@ -2,7 +2,7 @@
 use std::alloc::{AllocError, Global};
 use std::fmt;
 
-/// A text that is being written. A part for which there is no memory is left out, and `finish` tells.
+/// A text that is being written. A part for which there is no memory is left out, and `finish` reports it.
 #[derive(Drop)]
 pub struct Shown {
     text: String,
@@ -20,7 +20,7 @@ impl Shown {
         }
     }
 
-    /// An empty text with room for so many bytes: up to there, writing takes no memory.
+    /// An empty text with room for this many bytes: up to there, writing takes no memory.
     pub fn with_room(alloc: Global, has_places: bool, bytes: usize) -> Result<Shown, AllocError> {
         Ok(Shown {
             text: String::with_capacity(alloc, bytes)?,

@@ -20,7 +20,7 @@ pub fn judge(rt: &HostRuntime, words: &str, folder: &str, subject: Subject) -> R
     Ok(wrong)
 }
 
-/// The end of a program that found so many wrong rows: an error, if it found any.
+/// The end of a program that found this many wrong rows: an error, if it found any.
 pub fn ended(wrong: usize) -> Result<(), Fail> {
     if wrong > 0 {
         return Err(Fail::new("some rows don't hold"));
