@@ -1,6 +1,6 @@
 //! Block strings that are written from their values.
 
-ghost use Rattle.std.specs.Prelude.{◌≡◌, ◌≢◌, ◌++◌, [], ◌∷◌, ◌<◌, ℕ, List, false, true, nat_lt, length, replicate, IfOk, OnOk, string_bytes};
+ghost use Rattle.std.specs.Prelude.{◌≡◌, ◌≢◌, ◌++◌, [], ◌∷◌, ◌<◌, List, false, true, nat_lt, length, replicate, IfOk, OnOk, string_bytes};
 ghost use Rattle.std.specs.Str.{chars, encode_utf8_all};
 ghost use Rattle.graphql_tokens.specs.tokens.Alike.{inside, value_of_block};
 ghost use Rattle.graphql_tokens.specs.tokens.BlockText.{is_blank_char};
@@ -227,7 +227,12 @@ fn push_body(out: &mut String, value: &str, line_break: LineBreak) -> Result<boo
 }
 
 // Writes the quotes of a block string and the value. It gives whether closing quotes would be read with the value's last character.
-fn push_front(out: &mut String, value: &str, leads: bool, line_break: LineBreak) -> Result<bool, AllocError>
+fn push_front(
+    out: &mut String,
+    value: &str,
+    leads: bool,
+    line_break: LineBreak,
+) -> Result<bool, AllocError>
     ensures written { OnOk result (string_bytes out.new ≡ string_bytes out.old ++ (spec.quotes 3
         ++ (spec.break_if leads line_break ++ encode_utf8_all (spec.body line_break 0 (chars value.now))))) }
     ensures ends { IfOk result (λ b. b ≡ short.is_open 0 false (chars value.now)) }

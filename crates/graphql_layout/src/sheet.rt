@@ -101,8 +101,10 @@ fn push_line(text: &mut String, last: Last, line_end: LineEnd) -> Result<(), All
     line_end.push(text)
 }
 
-// How many levels of two blanks begin a line at most that is begun in one go, and how many blanks are written for them.
+// How many levels of two blanks a line begins with at most that is begun at once.
 const LEVELS: usize = 15;
+
+// How many blanks are written for them, before some are taken back.
 const BLANKS: usize = 31;
 
 // Ends a line and writes blanks, by one copy of a length that is known.
@@ -238,12 +240,7 @@ impl Sheet {
     pub fn begin_line(&mut self, depth: usize) -> Result<(), AllocError>
         ensures { self.new ≡ self.old }
     {
-        push_begin(
-            &mut self.text,
-            self.last,
-            self.line_end,
-            depth.min(LEVELS),
-        )?;
+        push_begin(&mut self.text, self.last, self.line_end, depth.min(LEVELS))?;
         self.last = Last::Other(Ending::Open);
         if depth > LEVELS {
             return push_levels(&mut self.text, depth - LEVELS);
@@ -308,8 +305,10 @@ impl Sheet {
     /// Writes a block string of the value (GraphQL October 2021, section 2.9.4), with so many blanks before each line after its first.
     /// It fails only where memory runs out, and what was on the sheet may be lost then.
     pub fn block(&mut self, value: &str, indent: usize) -> Result<(), AllocError>
-        ensures ok { OnOk result ((line_end : LineEnd) × (self.new ≡ self.old ++ word (record { kind = kinds.Block;
-            spelling = spelled (record { line_end = line_end; indent = indent }) value.now }) ∷ [])) }
+        ensures ok { OnOk result ((line_end : LineEnd) × (self.new ≡ self.old ++ word (record {
+          kind = kinds.Block;
+          spelling = spelled (record { line_end = line_end; indent = indent }) value.now;
+        }) ∷ [])) }
     {
         self.last = make_room(&mut self.text, self.last, self.line_end, "\"\"\"")?;
         let empty = String::new(*self.text.allocator());

@@ -1,5 +1,5 @@
 use Rattle.std.proofs.Common.{◌≡◌, ℕ, ◌+◌, ◌*◌, ◌-◌, List, ◌++◌, length, string_bytes, sym, subst, ap, ◌∙◌, take, arith}
-use Rattle.std.proofs.lemmas.List.{length-append, length-replicate}
+use Rattle.std.proofs.lemmas.List.{length-append}
 use Rattle.std.specs.String.Boundary.{IsSplitPoint}
 use Rattle.graphql_layout.specs.texts.Blocks.{blanks}
 use Rattle.graphql_layout.specs.texts.LineEnds.{line_end}

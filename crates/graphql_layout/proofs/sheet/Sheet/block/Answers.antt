@@ -29,9 +29,9 @@ returns c =
     let is = c.in_ok-push_block.ensures in
     record {
       ok = (
-          c.self.inside.line_end,
-          (token_added (string_bytes text) (string_bytes c.push_block.new.out) last Block block (IsUtf8-string_bytes text) h.ok.sheet is.token (held_same last block is.token ∙ h.room)
-          (is.written ∙ ap (λ t. string_bytes t ++ block) c.replace-text.ensures.value)).has
-          ∙ ap (λ (l : List Item). l ++ word (record { kind = Block; spelling = block }) ∷ []) (h.ok.has ∙ c.self.view_is),
+        c.self.inside.line_end,
+        (token_added (string_bytes text) (string_bytes c.push_block.new.out) last Block block (IsUtf8-string_bytes text) h.ok.sheet is.token (held_same last block is.token ∙ h.room)
+            (is.written ∙ ap (λ t. string_bytes t ++ block) c.replace-text.ensures.value)).has
+            ∙ ap (λ (l : List Item). l ++ word (record { kind = Block; spelling = block }) ∷ []) (h.ok.has ∙ c.self.view_is),
       );
     }
