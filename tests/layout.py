@@ -6,9 +6,10 @@
 Texts are the rows of the tables of `conformance` and of tests/tables, and COUNT random texts of each language (2,000 without it) of
 `tests/random_texts.py`. GraphQL.js prints those that it reads. The tokens of what it prints, one blank apart, have to be
 formatted to that again, byte for byte, and so has what it prints itself: the block strings among them are spelled as in the
-text, where the two have the same tokens. No minified text may be longer than what `stripIgnoredCharacters` gives. It prints
-the texts for which that doesn't hold, and last how many there were of which kind; its status is 1 if there was one. Texts with
-a line of blanks inside a block string are left out: one that GraphQL.js reads otherwise than `gql` is kept as it is spelled.
+text, where the two have the same tokens, and lines end in CR LF where the first one in them does. No minified text may be
+longer than what `stripIgnoredCharacters` gives. It prints the texts for which that doesn't hold, and last how many there were
+of which kind; its status is 1 if there was one. Texts with a line of blanks inside a block string are left out: one that
+GraphQL.js reads otherwise than `gql` is kept as it is spelled.
 
 It needs node with the package graphql (Debian's node-graphql, 16.6), and the program of `crates/gql`, which `rt run` builds there.
 It isn't part of `rt ci`, since that needs the kit alone.
@@ -132,6 +133,12 @@ def minified(language, text):
     return ran.stdout.decode().removesuffix("\n") if ran.returncode == 0 else None
 
 
+def ended_as(text, printed):
+    """What is printed, with line ends as `gql format` writes them for the text."""
+    first = re.search("\r?\n|\r", text)
+    return printed.replace("\n", "\r\n") if first and first[0] == "\r\n" else printed
+
+
 def compare(language, texts):
     """How many texts were alike, different, refused by gql alone, and not read by GraphQL.js."""
     seen = printed_by_node(texts)
@@ -145,7 +152,9 @@ def compare(language, texts):
             continue
         short = minified(language, text)
         is_longer = short is not None and len(short) > len(tree["stripped"])
-        if first.removesuffix("\n") == second.removesuffix("\n") == tree["printed"].rstrip("\n") and not is_longer:
+        printed = tree["printed"].rstrip("\n")
+        is_printed = first.removesuffix("\n") == printed and second.rstrip("\r\n") == ended_as(tree["spelled"], printed)
+        if is_printed and not is_longer:
             alike += 1
             continue
         different += 1

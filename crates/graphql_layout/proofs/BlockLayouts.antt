@@ -1,5 +1,5 @@
 -- The lines of what stands between the quotes of a block string.
-use Rattle.std.proofs.Common.{◌≡◌, ℕ, zero, suc, ◌+◌, ◌≤◌, Bool, true, false, cond, if◌then◌else◌, eqb, ltb, ◌&&◌, ◌||◌, List, [], ◌∷◌, ◌++◌, map, length, drop, get_or, refl, sym, ap, ap₂, ◌∙◌, append-nil, length-append, arith}
+use Rattle.std.proofs.Common.{◌≡◌, ℕ, zero, suc, ◌+◌, ◌≤◌, Bool, true, false, cond, if◌then◌else◌, eqb, ltb, ◌&&◌, ◌||◌, List, [], ◌∷◌, ◌++◌, map, length, drop, get_or, refl, sym, ap, ap₂, ◌∙◌, append_assoc, append-nil, length-append, arith}
 use Rattle.std.proofs.lemmas.Bool.Decides.{nat_tests}
 use Rattle.std.proofs.lemmas.List.{length-replicate}
 use Rattle.std.specs.List.{AllByRecursion, list_all}
@@ -7,7 +7,11 @@ use Rattle.graphql_tokens.specs.tokens.Place.{is_line_end}
 use Rattle.graphql_tokens.specs.tokens.BlockText.{onto_line, lines_of, is_blank, indent, least, common_indent, dedented, joined}
 use Rattle.graphql_tokens.proofs.BlockIndents.{indents, indents_blank, indents_text}
 use Rattle.graphql_tokens.proofs.BlockLines.{lines_some}
+use Rattle.graphql_layout.specs.declared.line_ends.LineBreak.{LineBreak}
+use Rattle.graphql_layout.specs.declared.line_ends.LineEnd.{LineEnd}
+use Rattle.graphql_layout.specs.declared.line_ends.LineEnd.TheVariants.{Feed, ReturnAndFeed}
 use Rattle.graphql_layout.specs.texts.Blocks.{blanks, line_break, break_if}
+use Rattle.graphql_layout.specs.texts.LineEnds.{line_end}
 use Rattle.graphql_layout.specs.texts.Shortened.{has}
 use Rattle.graphql_layout.proofs.BlockBodies.{lined}
 
@@ -89,21 +93,6 @@ joined_lines (c ∷ cs) h = let n = none_of 13 c cs h in by (eqb c 10) (eqb c 13
     by false true e f r = absurd (cc)
     by false false e f r = joined_onto c (lines_of cs) ∙ ap (λ (l : List ℕ). c ∷ l) r
 
--- a text with a line feed in it
-onto_append : (c : ℕ) (t : List ℕ) (more : List (List ℕ)) → onto_line c (lines_of t ++ more) ≡ onto_line c (lines_of t) ++ more
-onto_append c t more = let s = lines_some t in ap (λ (l : List (List ℕ)). onto_line c (l ++ more)) s.2 ∙ ap (λ (l : List (List ℕ)). onto_line c l ++ more) (sym s.2)
-
-pub lines_append : (x y : List ℕ) → has 13 x ≡ false → lines_of (x ++ (10 ∷ y)) ≡ lines_of x ++ lines_of y
-lines_append [] y h = refl
-lines_append (c ∷ cs) y h = let n = none_of 13 c cs h in by (eqb c 10) (eqb c 13) n.0 (lines_append cs y n.1)
-  where
-    by : (a b : Bool) → b ≡ false → lines_of (cs ++ (10 ∷ y)) ≡ lines_of cs ++ lines_of y
-        → cond a ([] ∷ lines_of (cs ++ (10 ∷ y))) (cond b (cond (eqb (get_or (cs ++ (10 ∷ y)) 0 0) 10) (lines_of (cs ++ (10 ∷ y))) ([] ∷ lines_of (cs ++ (10 ∷ y)))) (onto_line c (lines_of (cs ++ (10 ∷ y)))))
-        ≡ cond a ([] ∷ lines_of cs) (cond b (cond (eqb (get_or cs 0 0) 10) (lines_of cs) ([] ∷ lines_of cs)) (onto_line c (lines_of cs))) ++ lines_of y
-    by true b f r = ap (λ (l : List (List ℕ)). [] ∷ l) r
-    by false true f r = absurd (cc)
-    by false false f r = ap (onto_line c) r ∙ onto_append c cs (lines_of y)
-
 -- ---- an indent
 
 abbrev pub indented : ℕ → List ℕ → List ℕ
@@ -113,48 +102,13 @@ pub lines_blanks : (n : ℕ) (t line : List ℕ) (lines : List (List ℕ)) → l
 lines_blanks zero t line lines e = e
 lines_blanks (suc n) t line lines e = ap (onto_line 32) (lines_blanks n t line lines e)
 
-pub blanks_alone : (n : ℕ) → lines_of (blanks n) ≡ blanks n ∷ []
-blanks_alone n = ap lines_of (sym (append-nil (blanks n))) ∙ lines_blanks n [] [] [] refl ∙ ap (λ (l : List ℕ). l ∷ []) (append-nil (blanks n))
-
--- the lines, each but the first indented
-abbrev pub hung : ℕ → List (List ℕ) → List (List ℕ)
-hung n [] = []
-hung n (line ∷ lines) = line ∷ map (indented n) lines
-
-hung_onto : (n c : ℕ) (lines : List (List ℕ)) → onto_line c (hung n lines) ≡ hung n (onto_line c lines)
-hung_onto n c [] = refl
-hung_onto n c (line ∷ lines) = refl
-
-pub lines_lined : (n : ℕ) (cs : List ℕ) → has 13 cs ≡ false → lines_of (lined n cs) ≡ hung n (lines_of cs)
-lines_lined n [] h = refl
-lines_lined n (c ∷ cs) h = let e = none_of 13 c cs h in by (eqb c 10) refl e.0 (lines_lined n cs e.1)
+-- a line break before them
+lines_break : (i : LineBreak) (t line : List ℕ) (lines : List (List ℕ)) → lines_of t ≡ line ∷ lines → lines_of (line_break i ++ t) ≡ [] ∷ indented i.indent line ∷ lines
+lines_break i t line lines e = by i.line_end
   where
-    by : (a : Bool) → eqb c 10 ≡ a → eqb c 13 ≡ false → lines_of (lined n cs) ≡ hung n (lines_of cs)
-        → lines_of (cond a (line_break n) (c ∷ []) ++ lined n cs) ≡ hung n (cond a ([] ∷ lines_of cs) (cond (eqb c 13) (cond (eqb (get_or cs 0 0) 10) (lines_of cs) ([] ∷ lines_of cs)) (onto_line c (lines_of cs))))
-    by true e f r =
-        let s = lines_some cs in
-        ap (λ (l : List (List ℕ)). [] ∷ l) (lines_blanks n (lined n cs) s.0 (map (indented n) s.1) (r ∙ ap (hung n) s.2))
-        ∙ ap (λ (l : List (List ℕ)). hung n ([] ∷ l)) (sym s.2)
-    by false e f r =
-        onto c (lined n cs) (inside c e f) ∙ ap (onto_line c) r ∙ hung_onto n c (lines_of cs)
-        ∙ ap (λ b. hung n (cond b (cond (eqb (get_or cs 0 0) 10) (lines_of cs) ([] ∷ lines_of cs)) (onto_line c (lines_of cs)))) (sym f)
-
-no_returns : (n : ℕ) (t : List ℕ) → has 13 (blanks n ++ t) ≡ has 13 t
-no_returns zero t = refl
-no_returns (suc n) t = no_returns n t
-
-pub no_return : (n : ℕ) (cs : List ℕ) → has 13 cs ≡ false → has 13 (lined n cs) ≡ false
-no_return n [] h = refl
-no_return n (c ∷ cs) h = let e = none_of 13 c cs h in by (eqb c 10) e.0 (no_return n cs e.1)
-  where
-    by : (a : Bool) → eqb c 13 ≡ false → has 13 (lined n cs) ≡ false → has 13 (cond a (line_break n) (c ∷ []) ++ lined n cs) ≡ false
-    by true e r = no_returns n (lined n cs) ∙ r
-    by false e r = ap (λ b. b || has 13 (lined n cs)) e ∙ r
-
--- no line feed, and nothing is indented
-pub lined_flat : (n : ℕ) (cs : List ℕ) → has 10 cs ≡ false → lined n cs ≡ cs
-lined_flat n [] h = refl
-lined_flat n (c ∷ cs) h = let e = none_of 10 c cs h in ap (λ b. cond b (line_break n) (c ∷ []) ++ lined n cs) e.0 ∙ ap (λ (l : List ℕ). c ∷ l) (lined_flat n cs e.1)
+    by : (end : LineEnd) → lines_of ((line_end end ++ blanks i.indent) ++ t) ≡ [] ∷ indented i.indent line ∷ lines
+    by Feed = ap (λ (l : List (List ℕ)). [] ∷ l) (lines_blanks i.indent t line lines e)
+    by ReturnAndFeed = ap (λ (l : List (List ℕ)). [] ∷ l) (lines_blanks i.indent t line lines e)
 
 -- ---- lines that are all indented
 
@@ -171,16 +125,48 @@ shown true trails n lines = [] ∷ spread trails n lines
 shown false trails n [] = closing trails n
 shown false trails n (line ∷ lines) = line ∷ spread trails n lines
 
-lines_below : (trails : Bool) (n : ℕ) (cs : List ℕ) → has 13 cs ≡ false → lines_of (lined n cs ++ break_if trails n) ≡ hung n (lines_of cs) ++ closing trails n
-lines_below true n cs h = lines_append (lined n cs) (blanks n) (no_return n cs h) ∙ ap₂ (λ (k l : List (List ℕ)). k ++ l) (lines_lined n cs h) (blanks_alone n)
-lines_below false n cs h = ap lines_of (append-nil (lined n cs)) ∙ lines_lined n cs h ∙ sym (append-nil (hung n (lines_of cs)))
+-- the lines, each but the first indented
+abbrev hung : ℕ → List (List ℕ) → List (List ℕ)
+hung n [] = []
+hung n (line ∷ lines) = line ∷ map (indented n) lines
 
-pub lines_shown : (leads trails : Bool) (n : ℕ) (cs line : List ℕ) (lines : List (List ℕ)) → has 13 cs ≡ false → lines_of cs ≡ line ∷ lines
-    → lines_of (break_if leads n ++ (lined n cs ++ break_if trails n)) ≡ shown leads trails n (line ∷ lines)
-lines_shown true trails n cs line lines h e =
-    let below : lines_of (lined n cs ++ break_if trails n) ≡ line ∷ spread trails n lines = lines_below trails n cs h ∙ ap (λ (l : List (List ℕ)). hung n l ++ closing trails n) e in
-    ap (λ (l : List (List ℕ)). [] ∷ l) (lines_blanks n (lined n cs ++ break_if trails n) line (spread trails n lines) below)
-lines_shown false trails n cs line lines h e = lines_below trails n cs h ∙ ap (λ (l : List (List ℕ)). hung n l ++ closing trails n) e
+break_lines : (trails : Bool) (i : LineBreak) → lines_of (break_if trails i) ≡ [] ∷ closing trails i.indent
+break_lines true i = ap lines_of (sym (append-nil (line_break i))) ∙ lines_break i [] [] [] refl ∙ ap (λ (l : List ℕ). [] ∷ l ∷ []) (append-nil (blanks i.indent))
+break_lines false i = refl
+
+lines_below : (trails : Bool) (i : LineBreak) (cs : List ℕ) → has 13 cs ≡ false → lines_of (lined i cs ++ break_if trails i) ≡ hung i.indent (lines_of cs) ++ closing trails i.indent
+lines_below trails i [] h = break_lines trails i
+lines_below trails i (c ∷ cs) h = let e = none_of 13 c cs h in by (eqb c 10) refl e.0 (lines_below trails i cs e.1)
+  where
+    last : List (List ℕ)
+    last = closing trails i.indent
+
+    tail : List ℕ
+    tail = break_if trails i
+
+    by : (a : Bool) → eqb c 10 ≡ a → eqb c 13 ≡ false → lines_of (lined i cs ++ tail) ≡ hung i.indent (lines_of cs) ++ last
+        → lines_of ((cond a (line_break i) (c ∷ []) ++ lined i cs) ++ tail) ≡ hung i.indent (cond a ([] ∷ lines_of cs) (cond (eqb c 13) (cond (eqb (get_or cs 0 0) 10) (lines_of cs) ([] ∷ lines_of cs)) (onto_line c (lines_of cs)))) ++ last
+    by true e f r =
+        let s = lines_some cs in
+        ap lines_of (append_assoc (line_break i) (lined i cs) tail)
+        ∙ lines_break i (lined i cs ++ tail) s.0 (map (indented i.indent) s.1 ++ last) (r ∙ ap (λ (l : List (List ℕ)). hung i.indent l ++ last) s.2)
+        ∙ ap (λ (l : List (List ℕ)). hung i.indent ([] ∷ l) ++ last) (sym s.2)
+    by false e f r =
+        let s = lines_some cs in
+        onto c (lined i cs ++ tail) (inside c e f) ∙ ap (onto_line c) (r ∙ ap (λ (l : List (List ℕ)). hung i.indent l ++ last) s.2)
+        ∙ ap (λ (l : List (List ℕ)). hung i.indent (onto_line c l) ++ last) (sym s.2)
+        ∙ ap (λ b. hung i.indent (cond b (cond (eqb (get_or cs 0 0) 10) (lines_of cs) ([] ∷ lines_of cs)) (onto_line c (lines_of cs))) ++ last) (sym f)
+
+pub lines_shown : (leads trails : Bool) (i : LineBreak) (cs line : List ℕ) (lines : List (List ℕ)) → has 13 cs ≡ false → lines_of cs ≡ line ∷ lines
+    → lines_of (break_if leads i ++ (lined i cs ++ break_if trails i)) ≡ shown leads trails i.indent (line ∷ lines)
+lines_shown leads trails i cs line lines h e = by leads
+  where
+    below : lines_of (lined i cs ++ break_if trails i) ≡ line ∷ spread trails i.indent lines
+    below = lines_below trails i cs h ∙ ap (λ (l : List (List ℕ)). hung i.indent l ++ closing trails i.indent) e
+
+    by : (leads : Bool) → lines_of (break_if leads i ++ (lined i cs ++ break_if trails i)) ≡ shown leads trails i.indent (line ∷ lines)
+    by true = lines_break i (lined i cs ++ break_if trails i) line (spread trails i.indent lines) below
+    by false = below
 
 pub blank_indented : (n : ℕ) (line : List ℕ) → is_blank (indented n line) ≡ is_blank line
 blank_indented zero line = refl

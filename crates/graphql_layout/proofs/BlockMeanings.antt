@@ -5,30 +5,32 @@ use Rattle.std.proofs.lemmas.List.Sums.{prefix_len-le-length}
 use Rattle.std.specs.List.{list_all}
 use Rattle.graphql_tokens.specs.tokens.Place.{is_line_end}
 use Rattle.graphql_tokens.specs.tokens.BlockText.{unquoted, lines_of, is_blank_char, is_blank, indent, least, common_indent, dedented, dedent, from_text, to_text, joined, block_value}
+use Rattle.graphql_tokens.specs.inner.Quoted.{NoQuote}
 use Rattle.graphql_tokens.proofs.BlockEnds.{to_text_more}
 use Rattle.graphql_tokens.proofs.BlockIndents.{indents, indents_text}
 use Rattle.graphql_tokens.proofs.BlockValue.{deep, same_all, from_text-all, to_text-all}
+use Rattle.graphql_layout.specs.declared.line_ends.LineBreak.{LineBreak}
 use Rattle.graphql_layout.specs.texts.Blocks.{begins_blank, is_wide, leads, trails, blanks, line_break, break_if, body, content}
 use Rattle.graphql_layout.specs.texts.Shortened.{has}
-use Rattle.graphql_layout.proofs.BlockBodies.{and_false, lined, unquoted_break, body_unquoted}
+use Rattle.graphql_layout.proofs.BlockBodies.{and_false, break_clear, lined, unquoted_break, body_unquoted}
 use Rattle.graphql_layout.proofs.BlockLayouts.{InLine, AreLines, are_lines, one_line, lines_joined, joined_lines, indented, closed, spread, shown, lines_shown, blank_indented, blank_blanks, common_spread, dedented_indented, dedented_spread}
 
 -- ---- without its backslashes
 
-break_alone : (n : ℕ) → unquoted (line_break n) ≡ line_break n
+break_alone : (n : LineBreak) → unquoted (line_break n) ≡ line_break n
 break_alone n = ap unquoted (sym (append-nil (line_break n))) ∙ unquoted_break n [] ∙ append-nil (line_break n)
 
-then_break : (b : Bool) (n : ℕ) (cs : List ℕ) → unquoted (body n 0 cs ++ break_if b n) ≡ lined n cs ++ break_if b n
-then_break true n cs = body_unquoted n 0 cs (line_break n) (λ e. omega arith) refl ∙ ap (λ (l : List ℕ). lined n cs ++ l) (break_alone n)
+then_break : (b : Bool) (n : LineBreak) (cs : List ℕ) → unquoted (body n 0 cs ++ break_if b n) ≡ lined n cs ++ break_if b n
+then_break true n cs = body_unquoted n 0 cs (line_break n) (subst NoQuote (append-nil (line_break n)) (break_clear n [])) refl ∙ ap (λ (l : List ℕ). lined n cs ++ l) (break_alone n)
 then_break false n cs = body_unquoted n 0 cs [] tt refl
 
-content_unquoted : (a b : Bool) (n : ℕ) (cs : List ℕ) → unquoted (content a b n cs) ≡ break_if a n ++ (lined n cs ++ break_if b n)
+content_unquoted : (a b : Bool) (n : LineBreak) (cs : List ℕ) → unquoted (content a b n cs) ≡ break_if a n ++ (lined n cs ++ break_if b n)
 content_unquoted true b n cs = unquoted_break n (body n 0 cs ++ break_if b n) ∙ ap (λ (l : List ℕ). line_break n ++ l) (then_break b n cs)
 content_unquoted false b n cs = then_break b n cs
 
 -- ---- its lines
 
-pub written_lines : (a b : Bool) (n : ℕ) (cs line : List ℕ) (lines : List (List ℕ)) → has 13 cs ≡ false → lines_of cs ≡ line ∷ lines → lines_of (unquoted (content a b n cs)) ≡ shown a b n (line ∷ lines)
+pub written_lines : (a b : Bool) (n : LineBreak) (cs line : List ℕ) (lines : List (List ℕ)) → has 13 cs ≡ false → lines_of cs ≡ line ∷ lines → lines_of (unquoted (content a b n cs)) ≡ shown a b n.indent (line ∷ lines)
 written_lines a b n cs line lines h e = ap lines_of (content_unquoted a b n cs) ∙ lines_shown a b n cs line lines h e
 
 -- ---- its value, if the value keeps its lines
@@ -122,11 +124,11 @@ flat cs k = by (has 10 cs) (is_wide cs) (begins_blank cs) refl refl
         let one = alone cs k e in
         ap (λ (l : List (List ℕ)). common_indent (k.line ∷ l)) one.1 ∙ ap least (indents_text k.line [] k.first) ∙ ap indent one.0 ∙ no_indent cs f
 
-pub kept_means : (a b : Bool) (n : ℕ) (cs : List ℕ) (k : Kept cs) → Flat a k.line k.lines → block_value (content a b n cs) ≡ cs
+pub kept_means : (a b : Bool) (n : LineBreak) (cs : List ℕ) (k : Kept cs) → Flat a k.line k.lines → block_value (content a b n cs) ≡ cs
 unfolding block_value
 kept_means a b n cs k f =
     ap (λ (l : List (List ℕ)). joined (to_text (from_text (dedent l)))) (written_lines a b n cs k.line k.lines k.no_return k.is)
-    ∙ ap joined (kept_lines a b n k.line k.lines k.first k.last f ∙ sym k.is)
+    ∙ ap joined (kept_lines a b n.indent k.line k.lines k.first k.last f ∙ sym k.is)
     ∙ joined_lines cs k.no_return
 
 pub nothing_means : block_value [] ≡ []
@@ -271,7 +273,7 @@ no_margin b n line lines more h e =
 leads_then : (cs : List ℕ) → has 10 cs ≡ true → leads cs ≡ true
 leads_then cs h = ap (λ b. b || (is_wide cs && not (begins_blank cs))) h
 
-pub means_kept : (n : ℕ) (cs : List ℕ) → cs ≢ [] → block_value (content (leads cs) (trails cs) n cs) ≡ cs → Kept cs
+pub means_kept : (n : LineBreak) (cs : List ℕ) → cs ≢ [] → block_value (content (leads cs) (trails cs) n cs) ≡ cs → Kept cs
 means_kept n cs some e =
     let l = left_of (content (leads cs) (trails cs) n cs) cs some e in
     record {
@@ -282,7 +284,7 @@ means_kept n cs some e =
       first = l.first;
       last = l.last;
       margin = λ many.
-          let shape : lines_of (unquoted (content (leads cs) (trails cs) n cs)) ≡ [] ∷ spread (trails cs) n (l.line ∷ l.lines) =
-          written_lines (leads cs) (trails cs) n cs l.line l.lines l.no_return l.is ∙ ap (λ (x : Bool). shown x (trails cs) n (l.line ∷ l.lines)) (leads_then cs many) in
-          no_margin (trails cs) n l.line l.lines l.lines l.first (ap (λ (x : List (List ℕ)). to_text (from_text (dedent x))) (sym shape) ∙ l.of);
+          let shape : lines_of (unquoted (content (leads cs) (trails cs) n cs)) ≡ [] ∷ spread (trails cs) n.indent (l.line ∷ l.lines) =
+          written_lines (leads cs) (trails cs) n cs l.line l.lines l.no_return l.is ∙ ap (λ (x : Bool). shown x (trails cs) n.indent (l.line ∷ l.lines)) (leads_then cs many) in
+          no_margin (trails cs) n.indent l.line l.lines l.lines l.first (ap (λ (x : List (List ℕ)). to_text (from_text (dedent x))) (sym shape) ∙ l.of);
     }

@@ -13,6 +13,7 @@ use Rattle.graphql_tokens.proofs.BlockValue.{quotes_at}
 use Rattle.graphql_tokens.proofs.Chars.{chars_split}
 use Rattle.graphql_tokens.proofs.EscapeUnits.{both}
 use Rattle.graphql_tokens.proofs.Scan.{IsAlike, span_chars}
+use Rattle.graphql_layout.specs.declared.line_ends.LineBreak.{LineBreak}
 use Rattle.graphql_layout.specs.texts.Blocks.{line_break, body, placed}
 use Rattle.graphql_layout.specs.inner.Marks.{is_special, BeginsWithMark, IsMarked}
 use Rattle.graphql_layout.specs.texts.Shortened.{is_mark, is_open}
@@ -100,7 +101,7 @@ fewer c text rest e = omega (arith, ap length e)
 appended : (old part new all rest : List ℕ) → new ≡ old ++ part → all ≡ part ++ rest → new ++ rest ≡ old ++ all
 appended old part new all rest e f = ap (λ (x : List ℕ). x ++ rest) e ∙ append_assoc old part rest ∙ ap (λ (x : List ℕ). old ++ x) (sym f)
 
-pub triple_marked : (i : ℕ) (text rest old new : List ℕ) → IsUtf8 text → text ≡ 34 ∷ 34 ∷ 34 ∷ rest → new ≡ old ++ (92 ∷ 34 ∷ 34 ∷ 34 ∷ []) → IsMarked i text rest false old new
+pub triple_marked : (i : LineBreak) (text rest old new : List ℕ) → IsUtf8 text → text ≡ 34 ∷ 34 ∷ 34 ∷ rest → new ≡ old ++ (92 ∷ 34 ∷ 34 ∷ 34 ∷ []) → IsMarked i text rest false old new
 triple_marked i text rest old new u e n =
     let one = begun 34 text (34 ∷ 34 ∷ rest) (omega arith) u e in
     let two = begun 34 (34 ∷ 34 ∷ rest) (34 ∷ rest) (omega arith) one.utf8 refl in
@@ -117,7 +118,7 @@ triple_marked i text rest old new u e n =
       utf8 = three.utf8;
     }
 
-pub feed_marked : (i c : ℕ) (text rest old new : List ℕ) → IsUtf8 text → text ≡ c ∷ rest → c ≡ 10 → new ≡ old ++ line_break i → IsMarked i text rest false old new
+pub feed_marked : (i : LineBreak) (c : ℕ) (text rest old new : List ℕ) → IsUtf8 text → text ≡ c ∷ rest → c ≡ 10 → new ≡ old ++ line_break i → IsMarked i text rest false old new
 feed_marked i c text rest old new u e f n =
     let one = begun 10 text rest (omega arith) u (e ∙ ap (λ (x : ℕ). x ∷ rest) f) in
     let cs = chars rest in
@@ -139,7 +140,7 @@ mark_of c h n = let f : eqb c 10 ≡ false = grind (arith, nat_tests) in (ap (λ
         three true y z = refl
         three false y z = refl
 
-pub other_marked : (i c : ℕ) (text rest old new : List ℕ) → IsUtf8 text → text ≡ c ∷ rest → is_special c ≡ true → c ≢ 10 → starts_with eqb text (34 ∷ 34 ∷ 34 ∷ []) ≡ false → new ≡ old ++ (c ∷ []) → IsMarked i text rest true old new
+pub other_marked : (i : LineBreak) (c : ℕ) (text rest old new : List ℕ) → IsUtf8 text → text ≡ c ∷ rest → is_special c ≡ true → c ≢ 10 → starts_with eqb text (34 ∷ 34 ∷ 34 ∷ []) ≡ false → new ≡ old ++ (c ∷ []) → IsMarked i text rest true old new
 other_marked i c text rest old new u e s m t n =
     let low = special_low c s in
     let one = begun c text rest low u e in
@@ -192,7 +193,7 @@ no_special c n = by (is_special c) refl
     by false e = ap not e
 
 -- what is plain stays as it is
-plain_body : (i : ℕ) (plain rest : List ℕ) → ArePlain plain → body i 0 (plain ++ rest) ≡ plain ++ body i 0 rest
+plain_body : (i : LineBreak) (plain rest : List ℕ) → ArePlain plain → body i 0 (plain ++ rest) ≡ plain ++ body i 0 rest
 plain_body i [] rest h = refl
 plain_body i (c ∷ plain) rest h =
     let q : eqb c 34 ≡ false = grind (arith, nat_tests) in
@@ -262,12 +263,12 @@ marked_chars [] u b = absurd (let s = b.some in omega arith)
 marked_chars (c ∷ rest) u b = (c, chars rest, (begun c (c ∷ rest) rest (special_low c b.special) u refl).is)
 
 -- what is written and left makes the whole
-abbrev pub State : ℕ → List ℕ → Bool → List ℕ → List ℕ → List ℕ → Type 0
+abbrev pub State : LineBreak → List ℕ → Bool → List ℕ → List ℕ → List ℕ → Type 0
 State i rest opens out old value =
     (out ++ encode_utf8_all (body i 0 (chars rest)) ≡ old ++ encode_utf8_all (body i 0 (chars value)))
     × (is_open 0 opens (chars rest) ≡ is_open 0 false (chars value))
 
-pub turned : (i : ℕ) (rest plain marked after : List ℕ) (opens next : Bool) (old out mid new value : List ℕ) → Cut rest plain marked → State i rest opens out old value → mid ≡ out ++ plain → IsMarked i marked after next mid new
+pub turned : (i : LineBreak) (rest plain marked after : List ℕ) (opens next : Bool) (old out mid new value : List ℕ) → Cut rest plain marked → State i rest opens out old value → mid ≡ out ++ plain → IsMarked i marked after next mid new
     → State i after next new old value
 turned i rest plain marked after opens next old out mid new value c s e m =
     let front = marked_chars marked c.utf8 c.begins in
@@ -282,7 +283,7 @@ turned i rest plain marked after opens next old out mid new value c s e m =
 
 -- ---- at its end
 
-pub ended : (i : ℕ) (rest : List ℕ) (opens : Bool) (old out new value : List ℕ) → IsUtf8 rest → ArePlain (chars rest) → State i rest opens out old value → new ≡ out ++ rest → new ≡ old ++ encode_utf8_all (body i 0 (chars value))
+pub ended : (i : LineBreak) (rest : List ℕ) (opens : Bool) (old out new value : List ℕ) → IsUtf8 rest → ArePlain (chars rest) → State i rest opens out old value → new ≡ out ++ rest → new ≡ old ++ encode_utf8_all (body i 0 (chars value))
 ended i rest opens old out new value u p s e =
     let here : body i 0 (chars rest) ≡ chars rest = ap (body i 0) (sym (append-nil (chars rest))) ∙ plain_body i (chars rest) [] p ∙ append-nil (chars rest) in
     e ∙ ap (λ (x : List ℕ). out ++ x) (sym (ap encode_utf8_all here ∙ encodes-chars rest u)) ∙ s.0
@@ -298,7 +299,7 @@ same_empty (c ∷ cs) u = by (chars (c ∷ cs)) refl
         let y : eqb (length (c ∷ cs)) 0 ≡ false = grind (arith, nat_tests) in
         ap (λ (l : List ℕ). eqb (length l) 0) e ∙ x ∙ sym y
 
-pub ends_open : (i : ℕ) (rest : List ℕ) (opens result : Bool) (old out value : List ℕ) → IsUtf8 rest → ArePlain (chars rest) → State i rest opens out old value → result ≡ (opens && eqb (length rest) 0) → result ≡ is_open 0 false (chars value)
+pub ends_open : (i : LineBreak) (rest : List ℕ) (opens result : Bool) (old out value : List ℕ) → IsUtf8 rest → ArePlain (chars rest) → State i rest opens out old value → result ≡ (opens && eqb (length rest) 0) → result ≡ is_open 0 false (chars value)
 ends_open i rest opens result old out value u p s e = e ∙ ap (λ b. opens && b) (sym (same_empty rest u)) ∙ sym (open_end opens (chars rest) p) ∙ s.1
 
 -- ---- cuts

@@ -1,25 +1,29 @@
 -- What a push leaves on a sheet.
-use Rattle.std.proofs.Common.{◌≡◌, ◌<◌, ◌≤◌, ◌+◌, ℕ, zero, suc, ◌++◌, List, [], ◌∷◌, length, take, cond, Result, Ok, Err, is_ok, OnOk, Global, String, string_bytes, refl, sym, ap, ◌∙◌, subst, append_assoc, arith, rules}
+use Rattle.std.proofs.Common.{◌≡◌, ◌≤◌, ◌+◌, ℕ, zero, suc, ◌++◌, List, [], ◌∷◌, length, take, cond, Result, Ok, Err, is_ok, OnOk, Global, String, string_bytes, refl, sym, ap, ◌∙◌, subst, append_assoc, arith, rules}
 use Rattle.std.specs.List.{AllByRecursion}
-use Rattle.std.specs.Str.{IsAscii}
+use Rattle.std.specs.Str.{IsAscii, IsUtf8}
 use Rattle.std.specs.String.Boundary.{IsSplitPoint}
 use Rattle.std.proofs.Math.Seq.{take-append-add}
 use Rattle.std.proofs.lemmas.List.{length-append, get_or-append-add}
-use Rattle.std.proofs.lemmas.Str.{IsUtf8-string_bytes, IsUtf8-append, IsUtf8-encode, IsAscii-take}
+use Rattle.std.proofs.lemmas.Str.{IsUtf8-string_bytes, IsUtf8-append, IsAscii-take}
 use lib.Utf8.{encode}
 use Rattle.graphql_layout.specs.declared.ending.Ending.{Ending}
 use Rattle.graphql_layout.specs.declared.ending.Ending.TheVariants.{Open}
+use Rattle.graphql_layout.specs.declared.line_ends.LineEnd.{LineEnd}
+use Rattle.graphql_layout.specs.declared.line_ends.LineEnd.TheVariants.{Feed, ReturnAndFeed}
 use Rattle.graphql_layout.specs.declared.sheet.Last.{Last}
 use Rattle.graphql_layout.specs.declared.sheet.Last.TheVariants.{Other}
 use Rattle.graphql_layout.specs.inner.ItemsIn.{items_in}
 use Rattle.graphql_layout.specs.inner.Sheets.{IsSheet, Holds}
+use Rattle.graphql_layout.specs.texts.Blocks.{blanks}
 use Rattle.graphql_layout.specs.texts.Items.{Item}
+use Rattle.graphql_layout.specs.texts.LineEnds.{line_end}
 use Rattle.graphql_layout.proofs.Sheets.{line_added, blank_added, comma_added, blanks_added}
 
-pub line_pushed : {T E : Type 0} (r : Result T E) (old new : String Global) (last : Last) → IsSheet (string_bytes old) last → string_bytes new ≡ cond (is_ok r) (string_bytes old ++ encode 10) (string_bytes old)
+pub line_pushed : {T E : Type 0} (r : Result T E) (end : LineEnd) (old new : String Global) (last : Last) → IsSheet (string_bytes old) last → OnOk r (string_bytes new ≡ string_bytes old ++ line_end end)
     → OnOk r (Holds (string_bytes new) (Other Open) (items_in (string_bytes old)))
-line_pushed (Ok x) old new last s e = line_added (string_bytes old) (string_bytes new) last (IsUtf8-string_bytes old) s e
-line_pushed (Err x) old new last s e = tt
+line_pushed (Ok x) end old new last s e = line_added end (string_bytes old) (string_bytes new) last (IsUtf8-string_bytes old) s e
+line_pushed (Err x) end old new last s e = tt
 
 pub blank_pushed : {T E : Type 0} (r : Result T E) (old new : String Global) (ending : Ending) → IsSheet (string_bytes old) (Other ending) → string_bytes new ≡ cond (is_ok r) (string_bytes old ++ encode 32) (string_bytes old)
     → OnOk r (Holds (string_bytes new) (Other Open) (items_in (string_bytes old)))
@@ -42,23 +46,39 @@ blanks_taken zero blanks b = tt
 blanks_taken (suc n) [] b = tt
 blanks_taken (suc n) (c ∷ blanks) b = (b.0, blanks_taken n blanks b.1)
 
-pub blanks_ascii : (c : ℕ) (blanks : List ℕ) → c < 128 → AllByRecursion (λ c. c ≡ 32) blanks → IsAscii (c ∷ blanks)
-blanks_ascii c blanks l b zero = l
-blanks_ascii c [] l b (suc i) = omega arith
-blanks_ascii c (d ∷ blanks) l b (suc i) = blanks_ascii d blanks (omega (arith, b.0)) b.1 i
+blanks_ascii : (n : ℕ) → IsAscii (blanks n)
+blanks_ascii zero i = omega arith
+blanks_ascii (suc n) zero = omega arith
+blanks_ascii (suc n) (suc i) = blanks_ascii n i
 
--- a sheet after a line feed and so many of these blanks
-pub begin_pushed : (old mid new : String Global) (last : Last) (n : ℕ) (blanks : List ℕ) → IsSheet (string_bytes old) last → AllByRecursion (λ c. c ≡ 32) blanks
-    → string_bytes mid ≡ string_bytes old ++ (10 ∷ blanks) → string_bytes new ≡ take (length (string_bytes old) + suc n) (string_bytes mid) → Holds (string_bytes new) (Other Open) (items_in (string_bytes old))
-unfolding encode
-begin_pushed old mid new last n blanks s b m e =
-    let a : IsAscii blanks = λ i. blanks_ascii 32 blanks (omega arith) b (suc i) in
+pub line_ascii : (end : LineEnd) (n : ℕ) → IsAscii (line_end end ++ blanks n)
+line_ascii Feed n zero = omega arith
+line_ascii Feed n (suc i) = blanks_ascii n i
+line_ascii ReturnAndFeed n zero = omega arith
+line_ascii ReturnAndFeed n (suc zero) = omega arith
+line_ascii ReturnAndFeed n (suc (suc i)) = blanks_ascii n i
+
+are_blanks : (n : ℕ) → AllByRecursion (λ c. c ≡ 32) (blanks n)
+are_blanks zero = tt
+are_blanks (suc n) = (refl, are_blanks n)
+
+end_utf8 : (end : LineEnd) → IsUtf8 (line_end end)
+end_utf8 Feed = search rules
+end_utf8 ReturnAndFeed = search rules
+
+-- a sheet after a line's end and so many of these blanks
+pub begin_pushed : (end : LineEnd) (old mid new : String Global) (last : Last) (n many : ℕ) → IsSheet (string_bytes old) last
+    → string_bytes mid ≡ string_bytes old ++ (line_end end ++ blanks many) → string_bytes new ≡ take (length (string_bytes old) + (length (line_end end) + n)) (string_bytes mid) → Holds (string_bytes new) (Other Open) (items_in (string_bytes old))
+begin_pushed end old mid new last n many s m e =
     let bytes = string_bytes old in
-    let line = bytes ++ encode 10 in
-    let begun = line_added bytes line last (IsUtf8-string_bytes old) s refl in
-    let is : string_bytes new ≡ line ++ take n blanks =
-    e ∙ ap (take (length bytes + suc n)) m ∙ take-append-add bytes (10 ∷ blanks) (suc n) ∙ sym (append_assoc bytes (encode 10) (take n blanks)) in
-    subst (Holds (string_bytes new) (Other Open)) begun.has (blanks_added line (string_bytes new) (take n blanks) (IsUtf8-append bytes (encode 10) (IsUtf8-string_bytes old) (IsUtf8-encode 10 (search rules))) begun.sheet (blanks_taken n blanks b) (IsAscii-take blanks n a) is)
+    let first = line_end end in
+    let utf8 = IsUtf8-string_bytes old in
+    let begun = line_added end bytes (bytes ++ first) last utf8 s refl in
+    let is : string_bytes new ≡ (bytes ++ first) ++ take n (blanks many) =
+    e ∙ ap (take (length bytes + (length first + n))) m ∙ take-append-add bytes (first ++ blanks many) (length first + n) ∙ ap (λ (x : List ℕ). bytes ++ x) (take-append-add first (blanks many) n)
+    ∙ sym (append_assoc bytes first (take n (blanks many))) in
+    subst (Holds (string_bytes new) (Other Open)) begun.has
+    (blanks_added (bytes ++ first) (string_bytes new) (take n (blanks many)) (IsUtf8-append bytes first utf8 (end_utf8 end)) begun.sheet (blanks_taken n (blanks many) (are_blanks many)) (IsAscii-take (blanks many) n (blanks_ascii many)) is)
 
 -- a text may be cut before an ASCII character
 pub ascii_split : (text more : List ℕ) (n : ℕ) → n ≤ length more → IsAscii more → IsSplitPoint (text ++ more) (length text + n)

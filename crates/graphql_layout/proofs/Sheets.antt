@@ -14,6 +14,8 @@ use Rattle.graphql_tokens.specs.tokens.Token.{Bare}
 use Rattle.graphql_tokens.specs.declared.lexer.TokenKind.{TokenKind}
 use Rattle.graphql_layout.specs.declared.ending.Ending.{Ending}
 use Rattle.graphql_layout.specs.declared.ending.Ending.TheVariants as endings
+use Rattle.graphql_layout.specs.declared.line_ends.LineEnd.{LineEnd}
+use Rattle.graphql_layout.specs.declared.line_ends.LineEnd.TheVariants.{Feed, ReturnAndFeed}
 use Rattle.graphql_layout.specs.declared.sheet.Last.{Last}
 use Rattle.graphql_layout.specs.declared.sheet.Last.TheVariants.{Comment, Other}
 use Rattle.graphql_layout.specs.inner.Endings.{ending_by}
@@ -21,6 +23,7 @@ use Rattle.graphql_layout.specs.inner.ItemsIn.{items_in}
 use Rattle.graphql_layout.specs.inner.Sheets.{holds_off, holds_off_token, MayCome, Goes, IsSheet, Holds}
 use Rattle.graphql_layout.specs.inner.Written.{Allows}
 use Rattle.graphql_layout.specs.texts.Items.{Item, comment, word, IsItems, words}
+use Rattle.graphql_layout.specs.texts.LineEnds.{line_end}
 use Rattle.graphql_layout.specs.texts.SameTokens.{HasTokens}
 use Rattle.graphql_layout.proofs.Firsts.{begun, allows_token, may_follow}
 use Rattle.graphql_layout.proofs.Items.{ignored_item, comment_item, word_item, items_written}
@@ -55,13 +58,13 @@ seam : (text part w rest new : List ℕ) → IsUtf8 text → chars part ≡ w �
 seam text part w rest new u e n =
     ap (λ (x : List ℕ). chars x ++ rest) n ∙ ap (λ (x : List ℕ). x ++ rest) (chars-append text part u ∙ ap (λ (x : List ℕ). chars text ++ x) e) ∙ append_assoc (chars text) w rest
 
--- a line feed may always come, a blank and a comma after all but a comment
-line_allowed : (last : Last) → holds_off last 10 ≡ false
-line_allowed Comment = refl
-line_allowed (Other endings.Open) = refl
-line_allowed (Other endings.Name) = refl
-line_allowed (Other endings.Number) = refl
-line_allowed (Other endings.EmptyString) = refl
+-- a line's end may always come, a blank and a comma after all but a comment
+line_allowed : (last : Last) → (holds_off last 10 ≡ false) × (holds_off last 13 ≡ false)
+line_allowed Comment = (refl, refl)
+line_allowed (Other endings.Open) = (refl, refl)
+line_allowed (Other endings.Name) = (refl, refl)
+line_allowed (Other endings.Number) = (refl, refl)
+line_allowed (Other endings.EmptyString) = (refl, refl)
 
 blank_allowed : (ending : Ending) → holds_off (Other ending) 32 ≡ false
 blank_allowed endings.Open = refl
@@ -85,26 +88,27 @@ open_comes : (rest : List ℕ) → MayCome (Other endings.Open) rest
 open_comes [] = tt
 open_comes (c ∷ cs) = refl
 
-gap_added : (text new : List ℕ) (last : Last) (c : ℕ) (part : List ℕ) → IsUtf8 text → IsSheet text last → chars part ≡ c ∷ [] → ((rest : List ℕ) (others : List Item) → IsItems rest others → IsItems (c ∷ rest) others) → holds_off last c ≡ false → new ≡ text ++ part
+gap_added : (text new : List ℕ) (last : Last) (c : ℕ) (cs part : List ℕ) → IsUtf8 text → IsSheet text last → chars part ≡ c ∷ cs → ((rest : List ℕ) (others : List Item) → IsItems rest others → IsItems (c ∷ (cs ++ rest)) others) → holds_off last c ≡ false → new ≡ text ++ part
     → Holds new (Other endings.Open) (items_in text)
-gap_added text new last c part u s is ignored n e =
+gap_added text new last c cs part u s is ignored n e =
     holds new (Other endings.Open) (items_in text) (λ rest others a h.
-    subst (λ (x : List ℕ). IsItems x (items_in text ++ others)) (sym (seam text part (c ∷ []) rest new u is e))
-    (s.goes (c ∷ rest) others n (ignored rest others h)))
+    subst (λ (x : List ℕ). IsItems x (items_in text ++ others)) (sym (seam text part (c ∷ cs) rest new u is e))
+    (s.goes (c ∷ (cs ++ rest)) others n (ignored rest others h)))
 
-pub line_added : (text new : List ℕ) (last : Last) → IsUtf8 text → IsSheet text last → new ≡ text ++ encode 10 → Holds new (Other endings.Open) (items_in text)
-line_added text new last u s e =
-    gap_added text new last 10 (10 ∷ []) u s (chars-IsAscii (10 ∷ []) (search rules)) (λ rest others h. ignored_item 10 rest others refl h) (line_allowed last)
-    (e ∙ ap (λ (x : List ℕ). text ++ x) (encode_ascii 10 (omega arith)))
+pub line_added : (end : LineEnd) (text new : List ℕ) (last : Last) → IsUtf8 text → IsSheet text last → new ≡ text ++ line_end end → Holds new (Other endings.Open) (items_in text)
+line_added Feed text new last u s e =
+    gap_added text new last 10 [] (10 ∷ []) u s (chars-IsAscii (10 ∷ []) (search rules)) (λ rest others h. ignored_item 10 rest others refl h) (line_allowed last).0 e
+line_added ReturnAndFeed text new last u s e =
+    gap_added text new last 13 (10 ∷ []) (13 ∷ 10 ∷ []) u s (chars-IsAscii (13 ∷ 10 ∷ []) (search rules)) (λ rest others h. ignored_item 13 (10 ∷ rest) others refl (ignored_item 10 rest others refl h)) (line_allowed last).1 e
 
 pub blank_added : (text new : List ℕ) (ending : Ending) → IsUtf8 text → IsSheet text (Other ending) → new ≡ text ++ encode 32 → Holds new (Other endings.Open) (items_in text)
 blank_added text new ending u s e =
-    gap_added text new (Other ending) 32 (32 ∷ []) u s (chars-IsAscii (32 ∷ []) (search rules)) (λ rest others h. ignored_item 32 rest others refl h) (blank_allowed ending)
+    gap_added text new (Other ending) 32 [] (32 ∷ []) u s (chars-IsAscii (32 ∷ []) (search rules)) (λ rest others h. ignored_item 32 rest others refl h) (blank_allowed ending)
     (e ∙ ap (λ (x : List ℕ). text ++ x) (encode_ascii 32 (omega arith)))
 
 pub comma_added : (text new : List ℕ) (ending : Ending) → IsUtf8 text → IsSheet text (Other ending) → new ≡ text ++ encode 44 → Holds new (Other endings.Open) (items_in text)
 comma_added text new ending u s e =
-    gap_added text new (Other ending) 44 (44 ∷ []) u s (chars-IsAscii (44 ∷ []) (search rules)) (λ rest others h. ignored_item 44 rest others refl h) (comma_allowed ending)
+    gap_added text new (Other ending) 44 [] (44 ∷ []) u s (chars-IsAscii (44 ∷ []) (search rules)) (λ rest others h. ignored_item 44 rest others refl h) (comma_allowed ending)
     (e ∙ ap (λ (x : List ℕ). text ++ x) (encode_ascii 44 (omega arith)))
 
 blanks_item : (blanks rest : List ℕ) (others : List Item) → AllByRecursion (λ c. c ≡ 32) blanks → IsItems rest others → IsItems (blanks ++ rest) others

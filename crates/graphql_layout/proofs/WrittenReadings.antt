@@ -4,6 +4,7 @@ use Rattle.std.proofs.lemmas.List.{length-replicate}
 use Rattle.graphql_tokens.specs.tokens.BlockText.{unquoted, lines_of, is_blank, least, common_indent, from_text, to_text, block_value}
 use Rattle.graphql_tokens.proofs.BlockIndents.{indents_blank}
 use Rattle.graphql_tokens.proofs.BlockValue.{from_text-all, to_text-all}
+use Rattle.graphql_layout.specs.declared.line_ends.LineBreak.{LineBreak}
 use Rattle.graphql_layout.specs.texts.Blocks.{blanks, content}
 use Rattle.graphql_layout.specs.texts.Specified.{specified_value}
 use Rattle.graphql_layout.proofs.BlockLayouts.{closing, spread, shown, blank_blanks, common_spread}
@@ -55,9 +56,9 @@ written_same true b n line lines last f raw e =
 written_same false b n line lines last f raw e =
     same_values raw line (spread b n lines) e (some_whole n (is_blank line) (spread b n lines) (hung_indent b n line lines last f) (spread_whole b n lines))
 
-pub kept_specified : (a b : Bool) (n : ℕ) (cs : List ℕ) (k : Kept cs) → Flat a k.line k.lines → specified_value (content a b n cs) ≡ cs
+pub kept_specified : (a b : Bool) (n : LineBreak) (cs : List ℕ) (k : Kept cs) → Flat a k.line k.lines → specified_value (content a b n cs) ≡ cs
 kept_specified a b n cs k f =
-    written_same a b n k.line k.lines k.last f (content a b n cs) (written_lines a b n cs k.line k.lines k.no_return k.is) ∙ kept_means a b n cs k f
+    written_same a b n.indent k.line k.lines k.last f (content a b n cs) (written_lines a b n cs k.line k.lines k.no_return k.is) ∙ kept_means a b n cs k f
 
 pub nothing_specified : specified_value [] ≡ []
 unfolding specified_value

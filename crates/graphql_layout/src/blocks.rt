@@ -1,16 +1,18 @@
 //! Block strings that are written from their values.
 
-ghost use Rattle.std.specs.Prelude.{◌≡◌, ◌≢◌, ◌++◌, [], ◌∷◌, ◌<◌, ℕ, List, false, true, nat_lt, length, replicate, IfOk, OnOk, string_bytes};
+ghost use Rattle.std.specs.Prelude.{◌≡◌, ◌≢◌, ◌++◌, [], ◌∷◌, ◌<◌, List, false, true, nat_lt, length, replicate, IfOk, OnOk, string_bytes};
 ghost use Rattle.std.specs.Str.{chars, encode_utf8_all};
 ghost use Rattle.graphql_tokens.specs.tokens.Alike.{inside, value_of_block};
 ghost use Rattle.graphql_tokens.specs.tokens.BlockText.{is_blank_char};
 ghost use Rattle.graphql_tokens.specs.tokens.Proper.{Spells};
 ghost use Rattle.graphql_tokens.specs.declared.lexer.TokenKind.TheVariants as kinds;
+ghost use Rattle.graphql_layout.specs.declared.line_ends.LineBreak.{LineBreak};
 ghost use Rattle.graphql_layout.specs.texts.Blocks as spec;
 ghost use Rattle.graphql_layout.specs.inner.Marks.{BeginsWithMark, IsMarked};
 ghost use Rattle.graphql_layout.specs.texts.Shortened as short;
 ghost use Rattle.graphql_layout.specs.texts.Specified.{HasSpecifiedValue};
 
+use crate::line_ends::LineBreak;
 use crate::one_reading::has_one_reading;
 use graphql_tokens::text::block_string_value;
 use memchr::memchr3;
@@ -150,14 +152,14 @@ fn keeps_lines(value: &str) -> bool
 /// says no, since `""` is as good.
 pub fn may_be_block(value: &str) -> bool
     // The block string means the value,
-    ensures means { result ≡ true → (indent : ℕ) →
-        spec.HasValue (spec.spelled indent value.now) value.now }
+    ensures means { result ≡ true → (line_break : LineBreak) →
+        spec.HasValue (spec.spelled line_break value.now) value.now }
     // by the specification too,
-    ensures as_specified { result ≡ true → (indent : ℕ) →
-        HasSpecifiedValue (spec.spelled indent value.now) value.now }
+    ensures as_specified { result ≡ true → (line_break : LineBreak) →
+        HasSpecifiedValue (spec.spelled line_break value.now) value.now }
     // and that of a value that isn't empty does so only then.
-    ensures only { (indent : ℕ) → value.now ≢ [] →
-        spec.HasValue (spec.spelled indent value.now) value.now → result ≡ true }
+    ensures only { (line_break : LineBreak) → value.now ≢ [] →
+        spec.HasValue (spec.spelled line_break value.now) value.now → result ≡ true }
 {
     keeps_lines(value)
 }
@@ -174,23 +176,11 @@ fn push_times(out: &mut String, c: char, count: usize) -> Result<(), AllocError>
 }
 
 // Ends a line, and indents the next.
-fn push_break(out: &mut String, indent: usize) -> Result<(), AllocError>
-    ensures { OnOk result (string_bytes out.new ≡ string_bytes out.old ++ spec.line_break indent) }
+fn push_break(out: &mut String, line_break: LineBreak) -> Result<(), AllocError>
+    ensures { OnOk result (string_bytes out.new ≡ string_bytes out.old ++ spec.line_break line_break) }
 {
-    out.push('\n')?;
-    push_times(out, ' ', indent)
-}
-
-// Writes what stands for a character that is no quote.
-fn push_placed(out: &mut String, c: char, indent: usize) -> Result<(), AllocError>
-    ensures { OnOk result (string_bytes out.new ≡ string_bytes out.old
-        ++ encode_utf8_all (spec.placed indent c)) }
-{
-    if c == '\n' {
-        push_break(out, indent)
-    } else {
-        out.push(c)
-    }
+    line_break.line_end.push(out)?;
+    push_times(out, ' ', line_break.indent)
 }
 
 // Writes what stands for the line feed, the quotes or the backslash at the front of the text. It gives what is left of the text,
@@ -198,10 +188,10 @@ fn push_placed(out: &mut String, c: char, indent: usize) -> Result<(), AllocErro
 fn push_mark<'a>(
     out: &mut String,
     text: &'a str,
-    indent: usize,
+    line_break: LineBreak,
 ) -> Result<(&'a str, bool), AllocError>
     requires { BeginsWithMark text.now }
-    ensures { IfOk result (λ r. IsMarked indent text.now r.0.now r.1 (string_bytes out.old) (string_bytes out.new)) }
+    ensures { IfOk result (λ r. IsMarked line_break text.now r.0.now r.1 (string_bytes out.old) (string_bytes out.new)) }
 {
     if text.as_bytes().starts_with(b"\"\"\"") {
         out.push_str("\\\"\"\"")?;
@@ -209,7 +199,7 @@ fn push_mark<'a>(
     }
     let (mark, rest) = text.split_at(1);
     if mark.as_bytes()[0] == b'\n' {
-        push_break(out, indent)?;
+        push_break(out, line_break)?;
         return Ok((rest, false));
     }
     out.push_str(mark)?;
@@ -218,9 +208,9 @@ fn push_mark<'a>(
 
 // Writes the lines of a value, with a backslash before each `"""`. It gives whether closing quotes would be read with its last
 // character.
-fn push_body(out: &mut String, value: &str, indent: usize) -> Result<bool, AllocError>
+fn push_body(out: &mut String, value: &str, line_break: LineBreak) -> Result<bool, AllocError>
     ensures written { OnOk result (string_bytes out.new ≡ string_bytes out.old
-        ++ encode_utf8_all (spec.body indent 0 (chars value.now))) }
+        ++ encode_utf8_all (spec.body line_break 0 (chars value.now))) }
     ensures ends { IfOk result (λ b. b ≡ short.is_open 0 false (chars value.now)) }
 {
     let mut rest = value;
@@ -228,7 +218,7 @@ fn push_body(out: &mut String, value: &str, indent: usize) -> Result<bool, Alloc
     while let Some(at) = memchr3(b'\n', b'"', b'\\', rest.as_bytes()) {
         let (plain, marked) = rest.split_at(at);
         out.push_str(plain)?;
-        let (after, opens) = push_mark(out, marked, indent)?;
+        let (after, opens) = push_mark(out, marked, line_break)?;
         rest = after;
         is_open = opens;
     }
@@ -237,45 +227,50 @@ fn push_body(out: &mut String, value: &str, indent: usize) -> Result<bool, Alloc
 }
 
 // Writes the quotes of a block string and the value. It gives whether closing quotes would be read with the value's last character.
-fn push_front(out: &mut String, value: &str, leads: bool, indent: usize) -> Result<bool, AllocError>
+fn push_front(
+    out: &mut String,
+    value: &str,
+    leads: bool,
+    line_break: LineBreak,
+) -> Result<bool, AllocError>
     ensures written { OnOk result (string_bytes out.new ≡ string_bytes out.old ++ (spec.quotes 3
-        ++ (spec.break_if leads indent ++ encode_utf8_all (spec.body indent 0 (chars value.now))))) }
+        ++ (spec.break_if leads line_break ++ encode_utf8_all (spec.body line_break 0 (chars value.now))))) }
     ensures ends { IfOk result (λ b. b ≡ short.is_open 0 false (chars value.now)) }
 {
     out.push_str("\"\"\"")?;
     if leads {
-        push_break(out, indent)?;
+        push_break(out, line_break)?;
     }
-    push_body(out, value, indent)
+    push_body(out, value, line_break)
 }
 
 // Writes the quotes after the value.
-fn push_back(out: &mut String, trails: bool, indent: usize) -> Result<(), AllocError>
+fn push_back(out: &mut String, trails: bool, line_break: LineBreak) -> Result<(), AllocError>
     ensures { OnOk result (string_bytes out.new ≡ string_bytes out.old
-        ++ (spec.break_if trails indent ++ spec.quotes 3)) }
+        ++ (spec.break_if trails line_break ++ spec.quotes 3)) }
 {
     if trails {
-        push_break(out, indent)?;
+        push_break(out, line_break)?;
     }
     out.push_str("\"\"\"")
 }
 
-/// Writes a block string of the value, with so many blanks before each line after its first.
+/// Writes a block string of the value, with this between each two of its lines.
 ///
 /// It is laid out as GraphQL.js 16 prints a value that has no carriage return: on lines of its own, blank ones indented too. But
 /// a value of one line and at most 70 characters, which ends in neither a quote nor a backslash, stands right between the quotes;
 /// and any other of one line that begins with a blank, right after the first three. Each `"""` in it gets a backslash.
 ///
 /// It fails only where memory runs out.
-pub fn push_block(out: &mut String, value: &str, indent: usize) -> Result<(), AllocError>
+pub fn push_block(out: &mut String, value: &str, line_break: LineBreak) -> Result<(), AllocError>
     ensures written { OnOk result (string_bytes out.new ≡ string_bytes out.old
-        ++ spec.spelled indent value.now) }
+        ++ spec.spelled line_break value.now) }
     // It is a block string, whatever the value.
-    ensures token { OnOk result (Spells kinds.Block (spec.spelled indent value.now)) }
+    ensures token { OnOk result (Spells kinds.Block (spec.spelled line_break value.now)) }
 {
     let (leads, trails) = places(value);
-    push_front(out, value, leads, indent)?;
-    push_back(out, trails, indent)
+    push_front(out, value, leads, line_break)?;
+    push_back(out, trails, line_break)
 }
 
 // Whether the lines after the first would lose an indent, if the value stood right after the opening quotes.
@@ -289,8 +284,9 @@ fn is_hung(value: &str) -> bool
 fn push_compact(out: &mut String, value: &str) -> Result<(), AllocError>
     ensures { OnOk result (string_bytes out.new ≡ string_bytes out.old ++ short.compact (chars value.now)) }
 {
-    let is_open = push_front(out, value, is_hung(value), 0)?;
-    push_back(out, is_open, 0)
+    let line_break = LineBreak::feed(0);
+    let is_open = push_front(out, value, is_hung(value), line_break)?;
+    push_back(out, is_open, line_break)
 }
 
 /// What stands between three quotes and three quotes.

@@ -13,6 +13,7 @@ pub mod walk;
 
 use crate::blocks::inside_quotes;
 use crate::comments::push_ignored;
+use crate::line_ends::LineEnd;
 use crate::one_reading::has_one_reading;
 use crate::sheet::Sheet;
 use ahead::{Ahead, go_on};
@@ -50,7 +51,8 @@ fn push_token(
 /// The text laid out anew, with its comments, less the blanks at their ends. Block strings are laid out too, with the values that
 /// they have, as GraphQL.js 16 prints them: each line after the first is two blanks deeper for each broken bracket around it. Other
 /// tokens are kept as they are spelled, and so is a block string whose value the specification and this parser don't agree on: a
-/// blank line in it is shorter than the common indent. `None` where the text has a fault.
+/// blank line in it is shorter than the common indent. Lines that are written end as [`LineEnd::of`] says. `None` where the text has
+/// a fault.
 ///
 /// It fails only where memory runs out.
 pub fn format(alloc: Global, text: &str) -> Result<Option<String>, AllocError>
@@ -58,7 +60,7 @@ pub fn format(alloc: Global, text: &str) -> Result<Option<String>, AllocError>
         MatchOption r (HasFault text.now) (λ s. IsLaidOut text.now (string_bytes s))) }
 {
     let mut layout = Layout::new(alloc, text);
-    let mut sheet = Sheet::with_room(alloc, text.len())?;
+    let mut sheet = Sheet::with_room(alloc, text.len(), LineEnd::of(text))?;
     let mut tokens = Tokens::new(text);
     let mut passed = Vec::new(alloc);
     let mut ahead = Ahead::of(text);

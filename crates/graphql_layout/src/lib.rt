@@ -29,6 +29,7 @@ pub mod blocks;
 mod comments;
 mod ending;
 mod layout;
+pub mod line_ends;
 mod one_reading;
 mod scans;
 pub mod sheet;

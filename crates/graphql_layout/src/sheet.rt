@@ -5,13 +5,16 @@ ghost use Rattle.std.specs.Str.{byte, chars};
 ghost use Rattle.graphql_tokens.specs.tokens.Ignored.{IsComment};
 ghost use Rattle.graphql_tokens.specs.tokens.Proper.{Spells};
 ghost use Rattle.graphql_tokens.specs.declared.lexer.TokenKind.TheVariants as kinds;
-ghost use Rattle.graphql_layout.specs.texts.Blocks.{spelled};
+ghost use Rattle.graphql_layout.specs.declared.line_ends.LineEnd.{LineEnd};
+ghost use Rattle.graphql_layout.specs.texts.Blocks.{blanks, spelled};
+ghost use Rattle.graphql_layout.specs.texts.LineEnds.{line_end as line_end_of};
 ghost use Rattle.graphql_layout.specs.inner.ItemsIn.{items_in};
 ghost use Rattle.graphql_layout.specs.inner.Sheets.{IsSheet, Holds, holds_off, holds_off_token};
 ghost use Rattle.graphql_layout.specs.texts.Items.{comment, in_quotes, word};
 
 use crate::blocks::push_block;
 use crate::ending::Ending;
+use crate::line_ends::{LineBreak, LineEnd};
 use graphql_tokens::lexer::TokenKind;
 use std::alloc::{AllocError, Global};
 use std::marker::Model;
@@ -26,12 +29,13 @@ enum Last {
     Other(Ending),
 }
 
-/// A text, as the comments and tokens that were written into it. Blanks and line feeds make no difference to them: between two
+/// A text, as the comments and tokens that were written into it. Blanks and line ends make no difference to them: between two
 /// tokens there are as many as the caller writes, and one that is needed and that the caller left out.
 #[derive(Drop)]
 pub struct Sheet {
     text: String,
     last: Last,
+    line_end: LineEnd,
 }
 
 impl Model for Sheet {
@@ -61,59 +65,76 @@ fn is_held_off(last: Last, spelling: &str) -> bool
 
 // Writes a blank, or ends the line of a comment.
 #[inline(always)]
-fn push_blank(text: &mut String, last: Last) -> Result<(), AllocError>
+fn push_blank(text: &mut String, last: Last, line_end: LineEnd) -> Result<(), AllocError>
     requires { IsSheet (string_bytes text.old) last }
     ensures ok { OnOk result (Holds (string_bytes text.new) (Last.Other Ending.Open)
         (items_in (string_bytes text.old))) }
     ensures err { OnErr result (string_bytes text.new ≡ string_bytes text.old) }
 {
     match last {
-        Last::Comment => text.push('\n'),
+        Last::Comment => push_line(text, last, line_end),
         Last::Other(_) => text.push(' '),
     }
 }
 
 // Writes a comma, or ends the line of a comment.
 #[inline(always)]
-fn push_comma(text: &mut String, last: Last) -> Result<(), AllocError>
+fn push_comma(text: &mut String, last: Last, line_end: LineEnd) -> Result<(), AllocError>
     requires { IsSheet (string_bytes text.old) last }
     ensures ok { OnOk result (Holds (string_bytes text.new) (Last.Other Ending.Open)
         (items_in (string_bytes text.old))) }
     ensures err { OnErr result (string_bytes text.new ≡ string_bytes text.old) }
 {
     match last {
-        Last::Comment => push_line(text, last),
+        Last::Comment => push_line(text, last, line_end),
         Last::Other(_) => text.push(','),
     }
 }
 
 #[inline(always)]
-fn push_line(text: &mut String, last: Last) -> Result<(), AllocError>
+fn push_line(text: &mut String, last: Last, line_end: LineEnd) -> Result<(), AllocError>
     requires { IsSheet (string_bytes text.old) last }
     ensures ok { OnOk result (Holds (string_bytes text.new) (Last.Other Ending.Open)
         (items_in (string_bytes text.old))) }
     ensures err { OnErr result (string_bytes text.new ≡ string_bytes text.old) }
 {
-    text.push('\n')
+    line_end.push(text)
 }
 
-// A line feed and blanks, which are written by one copy of a length that is known.
-const LINE: &str = "\n                               ";
-
-// How many levels of two blanks these are.
+// How many levels of two blanks a line begins with at most that is begun at once.
 const LEVELS: usize = 15;
 
-// Writes a line feed and so many levels of two blanks.
+// How many blanks are written for them, before some are taken back.
+const BLANKS: usize = 31;
+
+// Ends a line and writes blanks, by one copy of a length that is known.
 #[inline(always)]
-fn push_begin(text: &mut String, last: Last, depth: usize) -> Result<(), AllocError>
+fn push_long_line(text: &mut String, line_end: LineEnd) -> Result<(), AllocError>
+    ensures ok { OnOk result (string_bytes text.new ≡ string_bytes text.old ++ (line_end_of line_end ++ blanks 31)) }
+    ensures err { OnErr result (string_bytes text.new ≡ string_bytes text.old) }
+{
+    match line_end {
+        LineEnd::Feed => text.push_str("\n                               "),
+        LineEnd::ReturnAndFeed => text.push_str("\r\n                               "),
+    }
+}
+
+// Ends a line, and writes so many levels of two blanks.
+#[inline(always)]
+fn push_begin(
+    text: &mut String,
+    last: Last,
+    line_end: LineEnd,
+    depth: usize,
+) -> Result<(), AllocError>
     requires sheet { IsSheet (string_bytes text.old) last }
     requires depth { depth ≤ 15 }
     ensures ok { OnOk result (Holds (string_bytes text.new) (Last.Other Ending.Open)
         (items_in (string_bytes text.old))) }
     ensures err { OnErr result (string_bytes text.new ≡ string_bytes text.old) }
 {
-    text.push_str(LINE)?;
-    text.truncate(text.len() - (LINE.len() - 1 - 2 * depth));
+    push_long_line(text, line_end)?;
+    text.truncate(text.len() - (BLANKS - 2 * depth));
     Ok(())
 }
 
@@ -134,7 +155,12 @@ fn push_levels(text: &mut String, depth: usize) -> Result<(), AllocError>
 
 // Writes a blank or ends the line of a comment where this token may not come next, and gives what is then last.
 #[inline(always)]
-fn make_room(text: &mut String, last: Last, spelling: &str) -> Result<Last, AllocError>
+fn make_room(
+    text: &mut String,
+    last: Last,
+    line_end: LineEnd,
+    spelling: &str,
+) -> Result<Last, AllocError>
     requires { IsSheet (string_bytes text.old) last }
     ensures ok { IfOk result (λ next. Holds (string_bytes text.new) next (items_in (string_bytes text.old))) }
     ensures room { IfOk result (λ next. holds_off_token next spelling.now ≡ false) }
@@ -143,12 +169,12 @@ fn make_room(text: &mut String, last: Last, spelling: &str) -> Result<Last, Allo
     if !is_held_off(last, spelling) {
         return Ok(last);
     }
-    push_blank(text, last)?;
+    push_blank(text, last, line_end)?;
     Ok(Last::Other(Ending::Open))
 }
 
 // Ends the line of a comment, and gives what is then last.
-fn end_comment(text: &mut String, last: Last) -> Result<Last, AllocError>
+fn end_comment(text: &mut String, last: Last, line_end: LineEnd) -> Result<Last, AllocError>
     requires { IsSheet (string_bytes text.old) last }
     ensures ok { IfOk result (λ next. Holds (string_bytes text.new) next (items_in (string_bytes text.old))) }
     ensures room { IfOk result (λ next. holds_off next (byte "#") ≡ false) }
@@ -156,7 +182,7 @@ fn end_comment(text: &mut String, last: Last) -> Result<Last, AllocError>
 {
     match last {
         Last::Comment => {
-            push_line(text, last)?;
+            push_line(text, last, line_end)?;
             Ok(Last::Other(Ending::Open))
         }
         other => Ok(other),
@@ -177,23 +203,25 @@ impl Sheet {
     ghost use Rattle.graphql_layout.specs.texts.Items.{IsItems, words};
     ghost use Rattle.graphql_layout.specs.texts.SameTokens.{HasTokens};
 
-    /// A sheet with nothing on it.
+    /// A sheet with nothing on it, whose lines end in line feeds.
     pub fn new(alloc: Global) -> Sheet
         ensures { result ≡ [] }
     {
         Sheet {
             text: String::new(alloc),
             last: Last::Other(Ending::Open),
+            line_end: LineEnd::Feed,
         }
     }
 
-    /// A sheet with nothing on it, and room for so many bytes. It fails only where memory runs out.
-    pub fn with_room(alloc: Global, room: usize) -> Result<Sheet, AllocError>
+    /// A sheet with nothing on it, and room for so many bytes, whose lines end so. It fails only where memory runs out.
+    pub fn with_room(alloc: Global, room: usize, line_end: LineEnd) -> Result<Sheet, AllocError>
         ensures { IfOk result (λ sheet. sheet ≡ []) }
     {
         Ok(Sheet {
             text: String::with_capacity(alloc, room)?,
             last: Last::Other(Ending::Open),
+            line_end,
         })
     }
 
@@ -202,7 +230,7 @@ impl Sheet {
     pub fn blank(&mut self) -> Result<(), AllocError>
         ensures { self.new ≡ self.old }
     {
-        push_blank(&mut self.text, self.last)?;
+        push_blank(&mut self.text, self.last, self.line_end)?;
         self.last = Last::Other(Ending::Open);
         Ok(())
     }
@@ -212,7 +240,7 @@ impl Sheet {
     pub fn begin_line(&mut self, depth: usize) -> Result<(), AllocError>
         ensures { self.new ≡ self.old }
     {
-        push_begin(&mut self.text, self.last, depth.min(LEVELS))?;
+        push_begin(&mut self.text, self.last, self.line_end, depth.min(LEVELS))?;
         self.last = Last::Other(Ending::Open);
         if depth > LEVELS {
             return push_levels(&mut self.text, depth - LEVELS);
@@ -226,17 +254,17 @@ impl Sheet {
     pub fn comma(&mut self) -> Result<(), AllocError>
         ensures { self.new ≡ self.old }
     {
-        push_comma(&mut self.text, self.last)?;
+        push_comma(&mut self.text, self.last, self.line_end)?;
         self.last = Last::Other(Ending::Open);
         Ok(())
     }
 
-    /// Writes a line feed. It fails only where memory runs out.
+    /// Ends a line. It fails only where memory runs out.
     #[inline(always)]
     pub fn line(&mut self) -> Result<(), AllocError>
         ensures { self.new ≡ self.old }
     {
-        push_line(&mut self.text, self.last)?;
+        push_line(&mut self.text, self.last, self.line_end)?;
         self.last = Last::Other(Ending::Open);
         Ok(())
     }
@@ -250,7 +278,7 @@ impl Sheet {
             ++ word (record { kind = kind; spelling = spelling.now }) ∷ []) }
         ensures err { OnErr result (self.new ≡ self.old) }
     {
-        self.last = make_room(&mut self.text, self.last, spelling)?;
+        self.last = make_room(&mut self.text, self.last, self.line_end, spelling)?;
         self.text.push_str(spelling)?;
         self.last = Last::Other(Ending::of(kind, spelling));
         Ok(())
@@ -264,7 +292,7 @@ impl Sheet {
         ensures { OnOk result (self.new ≡ self.old
             ++ word (record { kind = kinds.String; spelling = in_quotes content.now }) ∷ []) }
     {
-        self.last = make_room(&mut self.text, self.last, "\"")?;
+        self.last = make_room(&mut self.text, self.last, self.line_end, "\"")?;
         let empty = String::new(*self.text.allocator());
         let mut text = mem::replace(&mut self.text, empty);
         self.last = Last::Other(Ending::Open);
@@ -277,15 +305,18 @@ impl Sheet {
     /// Writes a block string of the value (GraphQL October 2021, section 2.9.4), with so many blanks before each line after its first.
     /// It fails only where memory runs out, and what was on the sheet may be lost then.
     pub fn block(&mut self, value: &str, indent: usize) -> Result<(), AllocError>
-        ensures ok { OnOk result (self.new ≡ self.old
-            ++ word (record { kind = kinds.Block; spelling = spelled indent value.now }) ∷ []) }
+        ensures ok { OnOk result ((line_end : LineEnd) × (self.new ≡ self.old ++ word (record {
+          kind = kinds.Block;
+          spelling = spelled (record { line_end = line_end; indent = indent }) value.now;
+        }) ∷ [])) }
     {
-        self.last = make_room(&mut self.text, self.last, "\"\"\"")?;
+        self.last = make_room(&mut self.text, self.last, self.line_end, "\"\"\"")?;
         let empty = String::new(*self.text.allocator());
         let mut text = mem::replace(&mut self.text, empty);
         let last = self.last;
         self.last = Last::Other(Ending::Open);
-        push_block(&mut text, value, indent)?;
+        let line_end = self.line_end;
+        push_block(&mut text, value, LineBreak { line_end, indent })?;
         self.text = text;
         Ok(())
     }
@@ -297,7 +328,7 @@ impl Sheet {
         ensures ok { OnOk result (self.new ≡ self.old ++ comment (chars spelling.now) ∷ []) }
         ensures err { OnErr result (self.new ≡ self.old) }
     {
-        self.last = end_comment(&mut self.text, self.last)?;
+        self.last = end_comment(&mut self.text, self.last, self.line_end)?;
         self.text.push_str(spelling)?;
         self.last = Last::Comment;
         Ok(())

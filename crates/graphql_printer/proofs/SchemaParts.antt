@@ -23,7 +23,7 @@ use Rattle.graphql_schemas.specs.grammar.InputValues.{input_value_of, an_input_v
 use Rattle.graphql_schemas.specs.grammar.Members.{a_name, implements, members, enum_value_of, an_enum_value, enum_values}
 use Rattle.graphql_schemas.specs.grammar.Placeless.{placeless_description, placeless_names, placeless_input_value, placeless_input_values, placeless_field, placeless_enum_value}
 use Rattle.graphql_schemas.proofs.DescriptionProductions.{described-nowhere}
-use Rattle.graphql_layout.specs.texts.Blocks.{may_be_block}
+use Rattle.graphql_layout.specs.texts.Blocks.{feed, may_be_block}
 use Rattle.graphql_layout.proofs.BlockTexts.{block_spelled, value_kept}
 use Rattle.graphql_printer.specs.Controls.{IsClear, are_clear}
 use Rattle.graphql_printer.specs.inner.Shown.{shown_node, sign, word, quoted, shown_between, shown_separated}
@@ -80,9 +80,9 @@ again-block d u fits =
     record {
       tokens = token ∷ [];
       are = refl;
-      spelled = ((block_spelled 0 d.node u, ap are_clear (value_kept d.node u kept 0) ∙ both.1), tt);
+      spelled = ((block_spelled (feed 0) d.node u, ap are_clear (value_kept d.node u kept (feed 0)) ∙ both.1), tt);
       tree = text_of (token, d.node);
-      holds = inr (record { value = (token, d.node); holds = (refl, refl, sym (encodes-chars d.node u) ∙ ap encode_utf8_all (sym (value_kept d.node u kept 0))); is = refl });
+      holds = inr (record { value = (token, d.node); holds = (refl, refl, sym (encodes-chars d.node u) ∙ ap encode_utf8_all (sym (value_kept d.node u kept (feed 0)))); is = refl });
       same = refl;
     }
 

@@ -5,7 +5,8 @@ use Rattle.std.proofs.lemmas.List.{map-append}
 use Rattle.std.specs.Str.{chars, IsUtf8}
 use Rattle.graphql_tokens.specs.declared.lexer.TokenKind.TheVariants.{Block}
 use Rattle.graphql_tokens.specs.tokens.Token.{Bare}
-use Rattle.graphql_layout.specs.texts.Blocks.{may_be_block, spelled as spelled_block}
+use Rattle.graphql_layout.specs.declared.line_ends.LineBreak.{LineBreak}
+use Rattle.graphql_layout.specs.texts.Blocks.{feed, may_be_block, spelled as spelled_block}
 use Rattle.graphql_layout.specs.texts.Items.{Item, comment, word, words}
 use Rattle.graphql_layout.proofs.BlockTexts.{value_kept}
 use Rattle.graphql_printer.specs.inner.Shown.{by_value, by_values}
@@ -33,10 +34,10 @@ pub badly_kept : (rest new : List Bare) (b : Bare) → BeginsBadly rest → (res
 badly_kept [] new b h bad e = subst BeginsBadly (sym e) (bad refl)
 badly_kept (r ∷ rest) new b h bad e = subst BeginsBadly (sym e) h
 
--- however deep a block string is written, its value is the same
-pub same_block : (text : List ℕ) (indent : ℕ) → IsUtf8 text → may_be_block (chars text) ≡ true → by_value (record { kind = Block; spelling = spelled_block indent text }) ≡ by_value (record { kind = Block; spelling = spelled_block 0 text })
-same_block text indent utf8 may =
-    ap (λ (value : List ℕ). record { kind = Block; spelling = value }) (value_kept text utf8 may indent ∙ sym (value_kept text utf8 may 0))
+-- whatever is written between the lines of a block string, its value is the same
+pub same_block : (text : List ℕ) (between : LineBreak) → IsUtf8 text → may_be_block (chars text) ≡ true → by_value (record { kind = Block; spelling = spelled_block between text }) ≡ by_value (record { kind = Block; spelling = spelled_block (feed 0) text })
+same_block text between utf8 may =
+    ap (λ (value : List ℕ). record { kind = Block; spelling = value }) (value_kept text utf8 may between ∙ sym (value_kept text utf8 may (feed 0)))
 
 -- ---- as a result
 

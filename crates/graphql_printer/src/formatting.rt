@@ -18,7 +18,8 @@ use std::alloc::Global;
 /// broken after its opening bracket. Comments are kept, those on lines of their own and those at the ends of others, and one
 /// blank line where there were some between members. Tokens are kept as they are spelled, but block strings are indented anew:
 /// they keep their values, by the specification too (section 2.9.4). One that the specification and this parser read differently
-/// is kept as it is spelled. Selection sets, values and types may nest as deep as the limits say.
+/// is kept as it is spelled. Lines end in a carriage return and a line feed if the first one of the text does, and else in line feeds.
+/// Selection sets, values and types may nest as deep as the limits say.
 ///
 /// Errors are those of `check_query_limited`, of the text that it is given; `OutOfMemory` where memory was refused.
 pub fn format_query(alloc: Global, text: &str, limits: Limits) -> Result<String>

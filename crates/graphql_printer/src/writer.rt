@@ -4,7 +4,7 @@ ghost use Rattle.std.specs.List.{list_all};
 ghost use Rattle.std.specs.Str.{chars};
 ghost use Rattle.graphql_tokens.specs.tokens.Proper.{Spells};
 ghost use Rattle.graphql_tokens.specs.declared.lexer.TokenKind.TheVariants as kinds;
-ghost use Rattle.graphql_layout.specs.texts.Blocks.{may_be_block, spelled as spelled_block};
+ghost use Rattle.graphql_layout.specs.texts.Blocks.{feed, may_be_block, spelled as spelled_block};
 ghost use Rattle.graphql_printer.specs.inner.Shown.{by_values, quoted};
 ghost use Rattle.graphql_printer.specs.inner.SpelledTexts.{KeepsTokens};
 ghost use Rattle.graphql_printer.specs.inner.Words.{is_word as is_word_of, loose_tokens, stays_in_string};
@@ -12,6 +12,7 @@ ghost use Rattle.graphql_printer.specs.inner.Words.{is_word as is_word_of, loose
 use crate::scans::{NameBytes, StringBytes, are_all};
 use crate::strings::quoted_text;
 use graphql_layout::blocks::push_block;
+use graphql_layout::line_ends::LineBreak;
 use graphql_layout::sheet::Sheet;
 use graphql_tokens::lexer::{TokenKind, Tokens};
 use graphql_tokens::text::block_string_value;
@@ -102,7 +103,7 @@ fn push_loose(
     if kind.is_block() {
         let end = spelling.len().saturating_sub(3);
         let value = block_string_value(alloc, spelling.get(3..end).unwrap_or(""))?;
-        push_block(text, &value, 0)?;
+        push_block(text, &value, LineBreak::feed(0))?;
     } else {
         text.push_str(spelling)?;
     }
@@ -229,11 +230,11 @@ impl Writer {
     pub fn block(&mut self, text: &str) -> Result<(), AllocError>
         requires { may_be_block (chars text.now) ≡ true }
         ensures { OnOk result (self.new ≡ self.old
-            ++ by_values (record { kind = kinds.Block; spelling = spelled_block 0 text.now } ∷ [])) }
+            ++ by_values (record { kind = kinds.Block; spelling = spelled_block (feed 0) text.now } ∷ [])) }
     {
         if !self.rest.is_empty() {
             let mut spelling = String::new(self.alloc);
-            push_block(&mut spelling, text, 0)?;
+            push_block(&mut spelling, text, LineBreak::feed(0))?;
             return keep(self.alloc, &mut self.rest, TokenKind::Block, &spelling);
         }
         self.sheet.block(text, self.depth.saturating_mul(INDENT))

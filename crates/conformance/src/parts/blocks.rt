@@ -1,6 +1,7 @@
 //! Values as block strings, and sheets.
 use crate::rows::{Shown, pair};
 use graphql_layout::blocks::{may_be_block, push_block};
+use graphql_layout::line_ends::LineBreak;
 use graphql_layout::sheet::Sheet;
 use graphql_tokens::lexer::TokenKind;
 use std::alloc::AllocError;
@@ -18,7 +19,7 @@ pub fn write_block(shown: &mut Shown, row: &str) {
         "lost "
     });
     let mut block = String::new(shown.alloc());
-    match push_block(&mut block, value, indent) {
+    match push_block(&mut block, value, LineBreak::feed(indent)) {
         Ok(()) => shown.word(block.as_str()),
         Err(_) => shown.leave_out(),
     }

@@ -6,6 +6,9 @@ use Rattle.std.specs.Str.{byte, chars, encode_utf8_all}
 use Rattle.graphql_tokens.specs.tokens.Alike.{value_of_block}
 use Rattle.graphql_tokens.specs.tokens.Blocks.{closes}
 use Rattle.graphql_tokens.specs.tokens.BlockText.{is_blank_char}
+use Rattle.graphql_layout.specs.declared.line_ends.LineBreak.{LineBreak}
+use Rattle.graphql_layout.specs.declared.line_ends.LineEnd.TheVariants.{Feed}
+use Rattle.graphql_layout.specs.texts.LineEnds.{line_end}
 use Rattle.graphql_layout.specs.texts.Shortened.{is_mark, has, has_margin}
 
 -- ---- how it is spelled
@@ -16,30 +19,34 @@ blanks n = replicate n (byte " ")
 abbrev pub quotes : ℕ → List ℕ
 quotes n = replicate n (byte "\"")
 
--- a line feed, and the indent of the line after it
-abbrev pub line_break : ℕ → List ℕ
-line_break indent = byte "\n" ∷ blanks indent
+-- a line feed, and so many blanks
+abbrev pub feed : ℕ → LineBreak
+feed indent = record { line_end = Feed; indent = indent }
+
+-- the end of a line, and the indent of the line after it
+abbrev pub line_break : LineBreak → List ℕ
+line_break between = line_end between.line_end ++ blanks between.indent
 
 -- what stands for a character that is no quote
-abbrev pub placed : ℕ → ℕ → List ℕ
-placed indent c = if c == byte "\n" then line_break indent else c ∷ []
+abbrev pub placed : LineBreak → ℕ → List ℕ
+placed between c = if c == byte "\n" then line_break between else c ∷ []
 
 -- the characters, after so many quotes that stand as they are, with a backslash before each `"""` from left to right
-abbrev pub body : ℕ → ℕ → List ℕ → List ℕ
-body indent quotes [] = []
-body indent (suc n) (c ∷ cs) = c ∷ body indent n cs
-body indent zero (c ∷ cs) = if closes (c ∷ cs) then byte "\\" ∷ c ∷ body indent 2 cs else placed indent c ++ body indent 0 cs
+abbrev pub body : LineBreak → ℕ → List ℕ → List ℕ
+body between quotes [] = []
+body between (suc n) (c ∷ cs) = c ∷ body between n cs
+body between zero (c ∷ cs) = if closes (c ∷ cs) then byte "\\" ∷ c ∷ body between 2 cs else placed between c ++ body between 0 cs
 
-abbrev pub break_if : Bool → ℕ → List ℕ
-break_if b indent = if b then line_break indent else []
+abbrev pub break_if : Bool → LineBreak → List ℕ
+break_if b between = if b then line_break between else []
 
 -- what stands between the quotes: on a line below the first three, or right after them; and the others on a line of their own,
 -- or right after it
-abbrev pub content : Bool → Bool → ℕ → List ℕ → List ℕ
-content leads trails indent cs = break_if leads indent ++ (body indent 0 cs ++ break_if trails indent)
+abbrev pub content : Bool → Bool → LineBreak → List ℕ → List ℕ
+content leads trails between cs = break_if leads between ++ (body between 0 cs ++ break_if trails between)
 
-unfoldable pub block_of : Bool → Bool → ℕ → List ℕ → List ℕ
-block_of leads trails indent cs = encode_utf8_all (codes "\"\"\"" ++ (content leads trails indent cs ++ codes "\"\"\""))
+unfoldable pub block_of : Bool → Bool → LineBreak → List ℕ → List ℕ
+block_of leads trails between cs = encode_utf8_all (codes "\"\"\"" ++ (content leads trails between cs ++ codes "\"\"\""))
 
 -- ---- where its quotes stand
 
@@ -62,9 +69,9 @@ leads cs = has (byte "\n") cs || (is_wide cs && not (begins_blank cs))
 abbrev pub trails : List ℕ → Bool
 trails cs = has (byte "\n") cs || is_wide cs
 
--- the block string of a value, with so many blanks before each line after the first
-unfoldable pub spelled : ℕ → List ℕ → List ℕ
-spelled indent value = block_of (leads (chars value)) (trails (chars value)) indent (chars value)
+-- the block string of a value, with this between its lines
+unfoldable pub spelled : LineBreak → List ℕ → List ℕ
+spelled between value = block_of (leads (chars value)) (trails (chars value)) between (chars value)
 
 -- ---- which values it has
 

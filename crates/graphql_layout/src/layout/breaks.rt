@@ -3,6 +3,7 @@
 //! token in it is met twice.
 use crate::blocks::push_block;
 use crate::layout::walk::{Bracket, Role, Step, Walk};
+use crate::line_ends::LineBreak;
 use crate::one_reading::has_one_reading;
 use graphql_tokens::lexer::{TokenKind, Tokens};
 use graphql_tokens::text::block_string_value;
@@ -192,7 +193,7 @@ impl Planner {
             if has_one_reading(raw) {
                 let value = block_string_value(self.alloc, raw)?;
                 let mut written = String::new(self.alloc);
-                push_block(&mut written, &value, 0)?;
+                push_block(&mut written, &value, LineBreak::feed(0))?;
                 return Ok(written.encode_utf16().count());
             }
         }

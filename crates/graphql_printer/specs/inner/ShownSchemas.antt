@@ -22,7 +22,7 @@ use Rattle.graphql_printer.specs.inner.Shown.{sign, word, quoted, shown_node, sh
 
 -- a block string, which the layout indents
 abbrev pub in_block : List ℕ → Bare
-in_block text = record { kind = Block; spelling = blocks.spelled 0 text }
+in_block text = record { kind = Block; spelling = blocks.spelled (blocks.feed 0) text }
 
 -- a block string keeps it, and shows no control character but tabs and line feeds
 abbrev pub fits_block : List ℕ → Bool

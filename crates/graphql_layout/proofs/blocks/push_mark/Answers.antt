@@ -15,7 +15,7 @@ returns-then-starts_with c =
     let text : List ℕ = c.args.text.now in
     let triple : starts_with eqb text (34 ∷ 34 ∷ 34 ∷ []) ≡ true =
     ap (λ (l : List ℕ). starts_with eqb l (34 ∷ 34 ∷ 34 ∷ [])) (sym c.as_bytes.ensures.value) ∙ sym c.starts_with.ensures.value ∙ c.if-starts_with.true in
-    triple_marked c.args.indent text c.range_from.result.now (string_bytes c.args.out.now) (string_bytes c.push_str.new.self) c.utf8.text
+    triple_marked c.args.line_break text c.range_from.result.now (string_bytes c.args.out.now) (string_bytes c.push_str.new.self) c.utf8.text
     (triple_front text triple ∙ ap (λ (l : List ℕ). 34 ∷ 34 ∷ 34 ∷ l) (sym c.range_from.ensures.value)) c.in_ok-push_str.ensures.bytes
 
 pub split_at-requires : goal.split_at-requires
@@ -26,7 +26,7 @@ returns-then-as_bytes-eq10 c =
     let mark : List ℕ = c.split_at.result.0.now in
     let m = mark_begun c.args.text.now mark c.split_at.result.1.now c.utf8.text c.requires c.split_at.ensures.front c.split_at.ensures.back in
     let feed : get_or mark 0 0 ≡ 10 = ap (λ (l : List ℕ). get_or l 0 0) (sym c.as_bytes-2.ensures.value) ∙ c.if-as_bytes-eq10.true in
-    feed_marked c.args.indent (get_or mark 0 0) c.args.text.now c.split_at.result.1.now (string_bytes c.args.out.now) (string_bytes c.push_break.new.out) c.utf8.text m.0 feed c.in_ok-push_break.ensures
+    feed_marked c.args.line_break (get_or mark 0 0) c.args.text.now c.split_at.result.1.now (string_bytes c.args.out.now) (string_bytes c.push_break.new.out) c.utf8.text m.0 feed c.in_ok-push_break.ensures
 
 pub returns : goal.returns
 returns c =
@@ -35,6 +35,6 @@ returns c =
     let m = mark_begun text mark c.split_at.result.1.now c.utf8.text c.requires c.split_at.ensures.front c.split_at.ensures.back in
     let none : starts_with eqb text (34 ∷ 34 ∷ 34 ∷ []) ≡ false =
     ap (λ (l : List ℕ). starts_with eqb l (34 ∷ 34 ∷ 34 ∷ [])) (sym c.as_bytes.ensures.value) ∙ sym c.starts_with.ensures.value ∙ c.if-starts_with.false in
-    other_marked c.args.indent (get_or mark 0 0) text c.split_at.result.1.now (string_bytes c.args.out.now) (string_bytes c.push_str-2.new.self) c.utf8.text m.0 m.1
+    other_marked c.args.line_break (get_or mark 0 0) text c.split_at.result.1.now (string_bytes c.args.out.now) (string_bytes c.push_str-2.new.self) c.utf8.text m.0 m.1
     (λ e. c.if-as_bytes-eq10.false (ap (λ (l : List ℕ). get_or l 0 0) c.as_bytes-2.ensures.value ∙ e)) none
     (c.in_ok-push_str-2.ensures.bytes ∙ ap (λ (l : List ℕ). string_bytes c.args.out.now ++ l) m.2)

@@ -7,6 +7,7 @@ use Rattle.graphql_tokens.specs.tokens.Kinds.{is_block}
 use Rattle.graphql_tokens.specs.tokens.Proper.{Spells}
 use Rattle.graphql_tokens.specs.declared.lexer.TokenKind.{TokenKind}
 use Rattle.graphql_tokens.specs.declared.lexer.TokenKind.TheVariants.{Punct, Name, Number, String, Block, Fault, End}
+use Rattle.graphql_layout.specs.declared.line_ends.LineBreak.{LineBreak}
 use Rattle.graphql_layout.specs.texts.Blocks.{spelled}
 use Rattle.graphql_layout.specs.texts.OneReading.{has_one_reading}
 use Rattle.graphql_layout.proofs.BlockTexts.{spelled_means}
@@ -38,10 +39,12 @@ returns c =
     let spells : Spells Block text = subst (λ (k : TokenKind). Spells k text) kind c.requires in
     let one : has_one_reading (inside 3 text) ≡ true = sym (c.has_one_reading.ensures ∙ ap has_one_reading raw) ∙ c.if-not-has_one_reading.false in
     let is : chars value ≡ value_of_block text = ap chars c.deref.ensures ∙ c.in_ok-value.ensures.value ∙ ap (λ (l : List ℕ). block_value (chars l)) raw in
-    let means = spelled_means indent value (chars (inside 3 text)) c.deref.utf8 (sym is) in
-    on_ok_weaker c.block.result (λ e. record {
-      other = record { kind = Block; spelling = spelled indent value };
+    on_ok_weaker c.block.result (λ e.
+    let between : LineBreak = record { line_end = e.0; indent = indent } in
+    let means = spelled_means between value (chars (inside 3 text)) c.deref.utf8 (sym is) in
+    record {
+      other = record { kind = Block; spelling = spelled between value };
       alike = inr (record { block = kind; other_block = refl; value = sym is ∙ sym means.0 });
       as_specified = λ k. reads_alike text spells one ∙ sym is ∙ sym means.1;
-      is = e;
+      is = e.1;
     }) c.block.ensures.ok

@@ -15,7 +15,7 @@ invariant_of-self-2 c =
     let h = c.in_ok-self-inside.ensures in
     let text = c.make_room.new.text in
     let last = c.in_ok-self-inside.field-0 in
-    let block = spelled c.args.indent c.args.value.now in
+    let block = spelled (record { line_end = c.self.inside.line_end; indent = c.args.indent }) c.args.value.now in
     let is = c.in_ok-push_block.ensures in
     (token_added (string_bytes text) (string_bytes c.push_block.new.out) last Block block (IsUtf8-string_bytes text) h.ok.sheet is.token (held_same last block is.token ∙ h.room)
     (is.written ∙ ap (λ t. string_bytes t ++ block) c.replace-text.ensures.value)).sheet
@@ -25,11 +25,13 @@ returns c =
     let h = c.in_ok-self-inside.ensures in
     let text = c.make_room.new.text in
     let last = c.in_ok-self-inside.field-0 in
-    let block = spelled c.args.indent c.args.value.now in
+    let block = spelled (record { line_end = c.self.inside.line_end; indent = c.args.indent }) c.args.value.now in
     let is = c.in_ok-push_block.ensures in
     record {
-      ok =
-          (token_added (string_bytes text) (string_bytes c.push_block.new.out) last Block block (IsUtf8-string_bytes text) h.ok.sheet is.token (held_same last block is.token ∙ h.room)
-          (is.written ∙ ap (λ t. string_bytes t ++ block) c.replace-text.ensures.value)).has
-          ∙ ap (λ (l : List Item). l ++ word (record { kind = Block; spelling = block }) ∷ []) (h.ok.has ∙ c.self.view_is);
+      ok = (
+        c.self.inside.line_end,
+        (token_added (string_bytes text) (string_bytes c.push_block.new.out) last Block block (IsUtf8-string_bytes text) h.ok.sheet is.token (held_same last block is.token ∙ h.room)
+            (is.written ∙ ap (λ t. string_bytes t ++ block) c.replace-text.ensures.value)).has
+            ∙ ap (λ (l : List Item). l ++ word (record { kind = Block; spelling = block }) ∷ []) (h.ok.has ∙ c.self.view_is),
+      );
     }

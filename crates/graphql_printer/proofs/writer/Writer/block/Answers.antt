@@ -1,8 +1,12 @@
-use Rattle.std.proofs.Common.{sym, ◌∙◌, arith}
+use Rattle.std.proofs.Common.{List, ◌++◌, [], ◌∷◌, sym, ap, ◌∙◌, arith}
+use Rattle.std.proofs.lemmas.Result.{on_ok_weaker}
 use Rattle.graphql_tokens.specs.declared.lexer.TokenKind.TheVariants.{Block}
-use Rattle.graphql_layout.specs.texts.Blocks.{spelled}
+use Rattle.graphql_tokens.specs.tokens.Token.{Bare}
+use Rattle.graphql_layout.specs.declared.line_ends.LineBreak.{LineBreak}
+use Rattle.graphql_layout.specs.texts.Blocks.{feed, spelled}
+use Rattle.graphql_printer.specs.inner.Shown.{by_values}
 use Rattle.graphql_printer.specs.inner.Words.{loose_tokens}
-use Rattle.graphql_printer.proofs.Writing.{no_rest, same_block, written_ok}
+use Rattle.graphql_printer.proofs.Writing.{no_rest, on_sheet, same_block}
 use Rattle.graphql_printer.proofs.writer.Writer.block.Goals as goal
 
 pub returns : goal.returns
@@ -10,6 +14,8 @@ returns c =
     let rest = c.self.inside.rest in
     let none = no_rest rest.items _ (omega (arith, rest.ok.0)) (sym c.is_empty.ensures ∙ c.if-not-is_empty.false) in
     let text = c.args.text.now in
-    let indent = c.saturating_mul.result in
-    written_ok c.block.result c.self.inside.sheet c.block.new.self (loose_tokens rest.items) c.args.self.now (record { kind = Block; spelling = spelled 0 text }) (record { kind = Block; spelling = spelled indent text })
-    none c.block.ensures.ok (same_block text indent c.utf8.text c.requires) c.self.view_is
+    let b : Bare = record { kind = Block; spelling = spelled (feed 0) text } in
+    on_ok_weaker c.block.result (λ e.
+    let between : LineBreak = record { line_end = e.0; indent = c.saturating_mul.result } in
+    on_sheet c.self.inside.sheet c.block.new.self (loose_tokens rest.items) b (record { kind = Block; spelling = spelled between text }) none e.1 (same_block text between c.utf8.text c.requires)
+    ∙ ap (λ (l : List Bare). l ++ by_values (b ∷ [])) c.self.view_is) c.block.ensures.ok
