@@ -10,13 +10,14 @@ ghost use Rattle.graphql_texts.specs.checked.Good.{IsGoodText};
 ghost use Rattle.graphql_texts.specs.checked.Rewritten.{MeanTheSameAs, Prints, PrintsAs};
 
 use crate::errors::Source;
+use graphql_layout::line_ends::LineEnd;
 use graphql_layout::{format, minify};
 use graphql_parser::{Error, Limits, parse_query_limited, parse_schema_limited};
 use graphql_printer::{print_query, print_schema};
 use graphql_report::Language;
 use std::alloc::{AllocError, Global};
 
-/// The text of this source laid out anew, with its comments and a line feed at its end.
+/// The text of this source laid out anew, with its comments and the end of a line at its end.
 pub fn laid_out(alloc: Global, source: &Source<'_>) -> Result<String, AllocError>
     requires { IsGoodText true source.now.language source.now.limits source.now.text.now }
     ensures laid_out { IfOk result (λ s. IsLaidOut source.now.text.now (string_bytes s)) }
@@ -25,7 +26,7 @@ pub fn laid_out(alloc: Global, source: &Source<'_>) -> Result<String, AllocError
 {
     match format(alloc, source.text)? {
         Some(mut text) => {
-            text.push('\n')?;
+            LineEnd::of(source.text).push(&mut text)?;
             Ok(text)
         }
         None => unreachable!(),

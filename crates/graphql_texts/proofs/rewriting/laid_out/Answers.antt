@@ -12,15 +12,15 @@ unreachable-requires c =
     let text = source.text.now in
     no_fault_in source.language source.limits text c.requires (subst (λ (r : Option (String Global)). MatchOption r (HasFault text) (λ s. IsLaidOut text (string_bytes s))) c.in-None.is c.in_ok-text.ensures)
 
--- the text with its line feed is laid out
+-- the text with the end of its last line is laid out
 pub returns-clause-laid_out : goal.returns-clause-laid_out
 returns-clause-laid_out c =
     let text = c.args.source.now.text.now in
     let formatted : IsLaidOut text (string_bytes c.in-Some.text) = subst (λ (r : Option (String Global)). MatchOption r (HasFault text) (λ s. IsLaidOut text (string_bytes s))) c.in-Some.is c.in_ok-text.ensures in
-    laid_out_then text (string_bytes c.in-Some.text) (string_bytes c.push.new.self) (IsUtf8-string_bytes c.in-Some.text) c.in_ok-push-in-Some.ensures.bytes formatted
+    laid_out_then c.of.result text (string_bytes c.in-Some.text) (string_bytes c.push.new.text) (IsUtf8-string_bytes c.in-Some.text) c.in_ok-push-in-Some.ensures.ok formatted
 
 pub returns-clause-meaning : goal.returns-clause-meaning
 returns-clause-meaning c =
     let source = c.args.source.now in
     let text = source.text.now in
-    means_the_same source.language source.limits text (string_bytes c.push.new.self) (IsUtf8-string_bytes c.push.new.self) c.requires (returns-clause-laid_out c).tokens
+    means_the_same source.language source.limits text (string_bytes c.push.new.text) (IsUtf8-string_bytes c.push.new.text) c.requires (returns-clause-laid_out c).tokens
