@@ -35,7 +35,7 @@ use Rattle.graphql_report.specs.inner.Told.{ReadsTo}
 use Rattle.graphql_report.specs.reports.Refused.{RefusesTheToken, IsRefusedAt, IsRefusedFrom, IsKnown, IsOfAToken, IsItsToken, in_text}
 use Rattle.graphql_report.specs.reports.Rests.{AreCounted, BeginsAt, IsMoved, top}
 use Rattle.graphql_report.specs.reports.Findings.{EndsAt, IsEndOf, IsFinding, IsMessage, StandsAt}
-use Rattle.graphql_report.specs.reports.Reports.{AreDetails, IsReport, IsReportWith, IsToldAt, TellsToken}
+use Rattle.graphql_report.specs.reports.Reports.{AreDetails, IsReport, IsLimitRemark, IsReportWith, IsToldAt, TellsToken}
 use Rattle.graphql_report.specs.reports.Hints.{word_of}
 use Rattle.graphql_report.specs.declared.findings.Finding.{Finding}
 use Rattle.graphql_report.specs.declared.style.Style.{Style}
@@ -276,9 +276,13 @@ told-known : (language : Language) (limits : Limits) (text : List ℕ) (read : R
 told-known language limits text read error start told is of its (inl (same, none)) = inl (same, λ token r. none token (is-known language limits text read error is of its token r))
 told-known language limits text read error start told is of its (inr (at, bad)) = inr (at, λ token r. bad token (is-known language limits text read error is of its token r))
 
+-- and what is said of a limit
+remark-known : (language : Language) (limits : Limits) (text : List ℕ) (read : ReadUpTo) (more : List ℕ) → read.from ≡ top → read.unclosed ≡ None → IsItsToken language limits text top errors.RecursionLimitExceeded read.token → ((token : Token) → IsKnown language limits text read token → IsLimitRemark limits read.unclosed more) → (token : Token) → IsRefusedFrom language limits text top token → IsLimitRemark limits None more
+remark-known language limits text read more is closed its remark token r = subst (λ (unclosed : Option Pos). IsLimitRemark limits unclosed more) closed (remark token (is-known language limits text read errors.RecursionLimitExceeded is tt its token r))
+
 pub report-known : (style : Style) (file : List ℕ) (language : Language) (limits : Limits) (text : List ℕ) (read : ReadUpTo) (error : Error) (report : List ℕ) → read.from ≡ top → read.unclosed ≡ None → IsItsToken language limits text top error read.token → IsReportWith style file (IsKnown language limits text read) language limits text read.from read.unclosed error report → IsReport style file (IsRefusedFrom language limits text top) language limits text top error report
 report-known style file language limits text read (errors.Syntax message start stop) report is closed its (at, details, asked, stands, are, tells) = (at, details, asked, told-known language limits text read (errors.Syntax message start stop) start at is tt its stands, details-known language limits text read (errors.Syntax message start stop) details asked is closed tt its are, tells)
-report-known style file language limits text read errors.RecursionLimitExceeded report is closed its (at, (inside, same), tells) = (at, (inside, λ token r. same token (is-known language limits text read errors.RecursionLimitExceeded is tt its token r)), tells)
+report-known style file language limits text read errors.RecursionLimitExceeded report is closed its (at, more, (inside, same), remark, tells) = (at, more, (inside, λ token r. same token (is-known language limits text read errors.RecursionLimitExceeded is tt its token r)), remark-known language limits text read more is closed its remark, tells)
 report-known style file language limits text read error report is closed its h = h
 
 pub reports-known : {E : Type 0} {R : Type 0} (bytes : R → List ℕ) (style : Style) (file : List ℕ) (language : Language) (limits : Limits) (text : List ℕ) (read : ReadUpTo) (error : Error) (result : Result R E) → read.from ≡ top → read.unclosed ≡ None → IsItsToken language limits text top error read.token → IfOk result (λ r. IsReportWith style file (IsKnown language limits text read) language limits text read.from read.unclosed error (bytes r)) → IfOk result (λ r. IsReport style file (IsRefusedFrom language limits text top) language limits text top error (bytes r))
@@ -297,6 +301,7 @@ ends-known language limits text read error end is its h = h
 
 message-known : (language : Language) (limits : Limits) (text : List ℕ) (read : ReadUpTo) (error : Error) (told : List ℕ) (meant : Option (List ℕ)) → read.from ≡ top → read.unclosed ≡ None → IsItsToken language limits text top error read.token → IsMessage (IsKnown language limits text read) language limits text read.from read.unclosed error told meant → IsMessage (IsRefusedFrom language limits text top) language limits text top None error told meant
 message-known language limits text read (errors.Syntax message start stop) told meant is closed its (details, same, are) = (details, same, details-known language limits text read (errors.Syntax message start stop) details meant is closed tt its are)
+message-known language limits text read errors.RecursionLimitExceeded told meant is closed its (none, (more, remark, same)) = (none, (more, remark-known language limits text read more is closed its remark, same))
 message-known language limits text read error told meant is closed its h = h
 
 pub finding-known : {E : Type 0} (language : Language) (limits : Limits) (text : List ℕ) (read : ReadUpTo) (error : Error) (result : Result Finding E) → read.from ≡ top → read.unclosed ≡ None → IsItsToken language limits text top error read.token → IfOk result (IsFinding (IsKnown language limits text read) language limits text read.from read.unclosed error) → IfOk result (IsFinding (IsRefusedFrom language limits text top) language limits text top None error)

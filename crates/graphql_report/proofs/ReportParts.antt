@@ -17,7 +17,7 @@ use Rattle.graphql_report.specs.declared.style.Style.{Style}
 use Rattle.graphql_report.specs.declared.style.Part.TheVariants.{Place, Error as Word}
 use Rattle.graphql_tokens.specs.tokens.Place.{place_after}
 use Rattle.graphql_tokens.specs.tokens.Token.{Token}
-use Rattle.graphql_report.specs.reports.Reports.{AreDetails, TellsSyntax, styled, named, place_text, Tells, TellsLimit, IsLimitAt, IsPlaceIn, IsToldAt}
+use Rattle.graphql_report.specs.reports.Reports.{AreDetails, TellsSyntax, styled, named, place_text, Tells, TellsLimit, IsLimitAt, IsLimitRemark, IsPlaceIn, IsToldAt}
 
 pub place-shown : (file : List ℕ) (place : Pos) (shown front : List ℕ) → shown ≡ front ++ (decimal place.line ++ (58 ∷ []) ++ decimal place.column ++ (58 ∷ [])) → front ≡ named file (58 ∷ []) → shown ≡ place_text file place
 place-shown file place shown front e named_front =
@@ -50,9 +50,9 @@ pub place-in : (text front rest : List ℕ) (place : Pos) → IsUtf8 front → t
 place-in text front rest place utf8 e is = (chars front, chars rest, ap chars e ∙ chars-append front rest utf8, is)
 
 -- what is told at a limit
-pub limit-told : {A E : Type 0} (bytes : A → List ℕ) (result : Result A E) (style : Style) (file text : List ℕ) (is_refused : Token → Type 0) (place : Pos) → IsLimitAt is_refused text place → IfOk result (λ report. Tells style file place (codes "recursion limit exceeded") (bytes report)) → IfOk result (λ report. TellsLimit style file is_refused text (bytes report))
-limit-told bytes (Ok report) style file text is_refused place is told = (place, is, told)
-limit-told bytes (Err refused) style file text is_refused place is told = tt
+pub limit-told : {A E : Type 0} (bytes : A → List ℕ) (result : Result A E) (style : Style) (file text : List ℕ) (is_refused : Token → Type 0) (limits : Limits) (unclosed : Option Pos) (place : Pos) (more : List ℕ) → IsLimitAt is_refused text place → ((token : Token) → is_refused token → IsLimitRemark limits unclosed more) → IfOk result (λ report. Tells style file place ((codes "recursion limit exceeded" ++ more) ++ 10 ∷ []) (bytes report)) → IfOk result (λ report. TellsLimit style file is_refused limits text unclosed (bytes report))
+limit-told bytes (Ok report) style file text is_refused limits unclosed place more is remark told = (place, more, is, remark, told)
+limit-told bytes (Err refused) style file text is_refused limits unclosed place more is remark told = tt
 
 -- a message that goes on
 pub go-on : (front message more rest : List ℕ) → (front ++ message) ++ (more ++ rest) ≡ (front ++ (message ++ more)) ++ rest

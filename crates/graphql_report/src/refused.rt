@@ -4,6 +4,7 @@ ghost use Rattle.std.specs.Str.{IsCharBoundary};
 ghost use Rattle.graphql_grammar.specs.declared.error.Error.TheVariants.{OutOfMemory, RecursionLimitExceeded};
 ghost use Rattle.graphql_report.specs.inner.Told.{ReadsTo};
 ghost use Rattle.graphql_report.specs.reports.Refused.{IsOfAToken, IsItsToken};
+ghost use Rattle.graphql_report.specs.reports.Reports.{IsLimitNamed};
 ghost use Rattle.graphql_report.specs.reports.Rests.{BeginsAt, top};
 
 use crate::fronts::Language;
@@ -147,7 +148,9 @@ pub fn reached_limit(
     from: ReadFrom,
     limits: Limits,
     token: &Token<'_>,
-) -> Result<Depth, AllocError> {
+) -> Result<Depth, AllocError>
+    ensures { IfOk result (λ depth. IsLimitNamed limits depth.what.now depth.most) }
+{
     let line = line_of(alloc, read_before(text, from, token.start))?;
     let (what, most) = if passes(alloc, language, limits, line.as_str(), NUMBER_TEXT)? {
         ("lists and objects", limits.values())

@@ -8,11 +8,11 @@ ghost use Rattle.graphql_tokens.specs.tokens.Seen.{seen};
 ghost use Rattle.graphql_report.specs.inner.Carets.{IsCaretAt, IsWrongAfter};
 ghost use Rattle.graphql_report.specs.inner.Called.{texts};
 ghost use Rattle.graphql_report.specs.inner.Told.{AddsHintFor, IsWrong};
-ghost use Rattle.graphql_report.specs.reports.Hints.{word_of};
+ghost use Rattle.graphql_report.specs.reports.Hints.{unclosed_part, word_of};
 ghost use Rattle.graphql_report.specs.reports.Offsets.{second_remark};
 ghost use Rattle.graphql_report.specs.reports.Refused.{IsKnown, IsRefusedFrom};
 ghost use Rattle.graphql_report.specs.reports.Rests.{BeginsAt, top};
-ghost use Rattle.graphql_report.specs.reports.Reports.{AreDetails, IsReport, IsReportWith, TellsSyntax, TellsLimit, Tells, TellsPlaces, named as named_by};
+ghost use Rattle.graphql_report.specs.reports.Reports.{AreDetails, IsReport, IsReportWith, limit_words, TellsSyntax, TellsLimit, Tells, TellsPlaces, named as named_by};
 
 use crate::definitions::error_offsets;
 use crate::excerpt::excerpt_of;
@@ -336,8 +336,8 @@ fn explain_limit(
 ) -> Result<String, AllocError>
     requires { BeginsAt text.now source.now.read.now.from }
     ensures { IfOk result (λ report. TellsLimit source.now.style source.now.file_name.now
-        (IsKnown language limits text.now source.now.read.now) text.now
-        (string_bytes report)) }
+        (IsKnown language limits text.now source.now.read.now) limits text.now
+        source.now.read.now.unclosed (string_bytes report)) }
 {
     let read = source.read;
     let Some(token) = read.token else {
@@ -355,12 +355,16 @@ pub fn limit_remark(
     alloc: Global,
     depth: &Depth,
     read: &ReadUpTo<'_>,
-) -> Result<String, AllocError> {
+) -> Result<String, AllocError>
+    ensures { IfOk result (λ told.
+        string_bytes told ≡ limit_words depth.now.what.now depth.now.most ++ unclosed_part read.now.unclosed) }
+{
     let Depth { what, most } = *depth;
     let mut remark = format!(in alloc; ": {what} may nest {most} deep")?;
-    if let Some(place) = read.unclosed {
-        push_unclosed(&mut remark, place)?;
-    }
+    let Some(place) = read.unclosed else {
+        return Ok(remark);
+    };
+    push_unclosed(&mut remark, place)?;
     Ok(remark)
 }
 

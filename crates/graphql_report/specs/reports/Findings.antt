@@ -12,7 +12,7 @@ use Rattle.graphql_report.specs.declared.findings.Finding.{Finding}
 use Rattle.graphql_report.specs.declared.fronts.Language.{Language}
 use Rattle.graphql_report.specs.declared.rests.ReadFrom.{ReadFrom}
 use Rattle.graphql_report.specs.reports.Hints.{word_of}
-use Rattle.graphql_report.specs.reports.Reports.{IsToldAt, IsLimitAt, AreDetails}
+use Rattle.graphql_report.specs.reports.Reports.{IsToldAt, IsLimitAt, IsLimitRemark, AreDetails}
 
 abbrev pub first_of : List Pos → Option Pos
 first_of [] = None
@@ -31,7 +31,7 @@ IsEndOf text token end = MatchOption end (token.bare.spelling ≡ []) (λ place_
 -- the message says what the report says after the place; a word was meant if that is what the hint in it asks for, and else none
 abbrev pub IsMessage : (Token → Type 0) → Language → Limits → List ℕ → ReadFrom → Option Pos → Error → List ℕ → Option (List ℕ) → Type 0
 IsMessage is_refused language limits text from unclosed (Syntax message start stop) told meant = (details : List ℕ) × (told ≡ codes "syntax error: " ++ details) × AreDetails is_refused language limits text from unclosed details meant
-IsMessage is_refused language limits text from unclosed RecursionLimitExceeded told meant = (meant ≡ None) × ((more : List ℕ) × (told ≡ codes "recursion limit exceeded" ++ more))
+IsMessage is_refused language limits text from unclosed RecursionLimitExceeded told meant = (meant ≡ None) × ((more : List ℕ) × ((token : Token) → is_refused token → IsLimitRemark limits unclosed more) × (told ≡ codes "recursion limit exceeded" ++ more))
 IsMessage is_refused language limits text from unclosed error told meant = (meant ≡ None) × ((more : List ℕ) × (told ≡ error_text error ++ more))
 
 -- A finding ends where the refused token does, after its characters; and nowhere if that has none, or of another error.

@@ -67,6 +67,11 @@ IsExpectedWord names word = (name : List ℕ) × Contains names name × IsWordOf
 abbrev pub unclosed_hint : Pos → List ℕ
 unclosed_hint place = codes " (the block string that begins at " ++ (decimal place.line ++ codes ":" ++ decimal place.column) ++ codes " is probably not closed)"
 
+-- the same if such a place is known
+abbrev pub unclosed_part : Option Pos → List ℕ
+unclosed_part None = []
+unclosed_part (Some place) = unclosed_hint place
+
 -- Nothing, or a hint: that the token belongs to the other language, that the three names are no enum values, that an extension has
 -- no description, or which of the words that are expected was meant; and the word that the hint asks for, in the last case alone.
 pub data IsHint (language : Language) (token : Bare) (names : List (List ℕ)) (told : List ℕ) (asked : Option (List ℕ)) : Type 0 where
@@ -83,4 +88,4 @@ IsHintFor None language token names told asked = IsHint language token names tol
 
 -- the word as the code has it
 abbrev pub word_of : Option (Bor (List ℕ)) → Option (List ℕ)
-word_of meant = option_map (λ word. word.now) meant
+word_of given = option_map (λ word. word.now) given

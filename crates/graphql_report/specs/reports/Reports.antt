@@ -20,7 +20,7 @@ use Rattle.graphql_report.specs.declared.style.Part.TheVariants.{Place, Error as
 use Rattle.graphql_report.specs.reports.Escapes.{IsBadEscapeOf}
 use Rattle.graphql_report.specs.reports.Expected.{AreExpected}
 use Rattle.graphql_report.specs.reports.Faults.{IsToldOfFault, expects_value}
-use Rattle.graphql_report.specs.reports.Hints.{IsHintFor}
+use Rattle.graphql_report.specs.reports.Hints.{IsHintFor, unclosed_part}
 use Rattle.graphql_report.specs.reports.Offsets.{second_remark}
 use Rattle.graphql_report.specs.reports.Words.{found, expected}
 
@@ -92,6 +92,17 @@ pub record TellsToken (language : Language) (limits : Limits) (text : List ℕ) 
 abbrev pub AreDetails : (Token → Type 0) → Language → Limits → List ℕ → ReadFrom → Option Pos → List ℕ → Option (List ℕ) → Type 0
 AreDetails is_refused language limits text from unclosed details asked = (token : Token) → is_refused token → TellsToken language limits text from unclosed token details asked
 
+-- what may nest, and how deep it may
+abbrev pub IsLimitNamed : Limits → List ℕ → ℕ → Type 0
+IsLimitNamed limits what most = ((what ≡ codes "lists and objects") × (most ≡ limits.values)) ⊎ ((what ≡ codes "list types") × (most ≡ limits.types)) ⊎ ((what ≡ codes "selection sets") × (most ≡ limits.selections))
+
+abbrev pub limit_words : List ℕ → ℕ → List ℕ
+limit_words what most = codes ": " ++ (what ++ (codes " may nest " ++ (decimal most ++ codes " deep")))
+
+-- what is said of a limit: which one it is, and that a block string isn't closed, if that is known
+abbrev pub IsLimitRemark : Limits → Option Pos → List ℕ → Type 0
+IsLimitRemark limits unclosed told = (what : List ℕ) × (most : ℕ) × IsLimitNamed limits what most × (told ≡ limit_words what most ++ unclosed_part unclosed)
+
 -- a limit is told at a place in the text, that of the token that is the refused one
 abbrev pub IsLimitAt : (Token → Type 0) → List ℕ → Pos → Type 0
 IsLimitAt is_refused text place = IsPlaceIn text place × ((token : Token) → is_refused token → place ≡ token.pos)
@@ -105,17 +116,18 @@ TellsSyntax style file is_refused language limits text from unclosed start repor
     × AreDetails is_refused language limits text from unclosed details asked
     × Tells style file place (((codes "syntax " ++ styled style Word (codes "error") ++ codes ": ") ++ details) ++ 10 ∷ []) report
 
-abbrev pub TellsLimit : Style → List ℕ → (Token → Type 0) → List ℕ → List ℕ → Type 0
-TellsLimit style file is_refused text report =
-    (place : Pos)
+abbrev pub TellsLimit : Style → List ℕ → (Token → Type 0) → Limits → List ℕ → Option Pos → List ℕ → Type 0
+TellsLimit style file is_refused limits text unclosed report =
+    (place : Pos) × (more : List ℕ)
     × IsLimitAt is_refused text place
-    × Tells style file place (codes "recursion limit exceeded") report
+    × ((token : Token) → is_refused token → IsLimitRemark limits unclosed more)
+    × Tells style file place ((codes "recursion limit exceeded" ++ more) ++ 10 ∷ []) report
 
 -- The report of an error of a text that was read from there on, in which a block string that isn't closed is known to begin at a
 -- place, or none is: of a token that is refused, where it is and what it is; of another error, its own text and its places.
 abbrev pub IsReportWith : Style → List ℕ → (Token → Type 0) → Language → Limits → List ℕ → ReadFrom → Option Pos → Error → List ℕ → Type 0
 IsReportWith style file is_refused language limits text from unclosed (Syntax message start stop) report = TellsSyntax style file is_refused language limits text from unclosed start report
-IsReportWith style file is_refused language limits text from unclosed RecursionLimitExceeded report = TellsLimit style file is_refused text report
+IsReportWith style file is_refused language limits text from unclosed RecursionLimitExceeded report = TellsLimit style file is_refused limits text unclosed report
 IsReportWith style file is_refused language limits text from unclosed error report = TellsPlaces style file (error_text error) (second_remark error) (error_places error) report
 
 -- the same where no such string is known
