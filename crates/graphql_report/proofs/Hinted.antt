@@ -1,7 +1,7 @@
 -- Which word a hint asks for.
 use Rattle.std.proofs.Common.{◌≡◌, ◌⊎◌, inl, inr, ℕ, suc, zero, ◌<◌, Bool, true, false, ◌||◌, List, [], ◌∷◌, ◌++◌, Result, Ok, Err, length, get_or, refl, sym, ap, subst, ◌∙◌, append-nil, arith}
 use Rattle.std.specs.Borrow.{Bor}
-use Rattle.std.specs.Prelude.{OnOk}
+use Rattle.std.specs.Prelude.{Option, None, IfOk}
 use Rattle.std.specs.List.{Contains}
 use Rattle.std.specs.Str.{bytes_eq}
 use Rattle.std.proofs.lemmas.List.Elements.{Contains-append_left, Contains-append_right, Contains-push}
@@ -11,7 +11,7 @@ use Rattle.graphql_report.specs.declared.fronts.Language.{Language}
 use Rattle.graphql_report.specs.inner.Called.{texts}
 use Rattle.graphql_report.specs.inner.Told.{Adds, AddsHint, AddsMeant, IsGuess}
 use Rattle.graphql_report.specs.reports.Expected.{quoted}
-use Rattle.graphql_report.specs.reports.Hints.{is_among, IsWordOf, IsHint, none, meant}
+use Rattle.graphql_report.specs.reports.Hints.{is_among, IsWordOf, none, meant, word_of}
 
 pub among-contains : (names : List (List ℕ)) (name : List ℕ) → is_among names name ≡ true → Contains names name
 among-contains [] name h = absurd cc
@@ -33,16 +33,16 @@ next-guess names k name old new low guess (inr is) = inr ((get_or names k name).
 
 -- ---- what is told
 
-pub no-hint : (language : Language) (token : Bare) (names : List (List ℕ)) (old : List ℕ) → AddsHint language token names old old
-no-hint language token names old = ([], sym (append-nil old), none refl)
+pub no-hint : (language : Language) (token : Bare) (names : List (List ℕ)) (old : List ℕ) → AddsHint language token names old old None
+no-hint language token names old = ([], sym (append-nil old), none refl refl)
 
-pub meant-told : (language : Language) (token : Bare) (names : List (List ℕ)) (word old new : List ℕ) → AddsMeant word old new → IsGuess names word → AddsHint language token names old new
-meant-told language token names word old new (inl (empty, e)) guess = ([], e ∙ sym (append-nil old), none refl)
-meant-told language token names word old new (inr (some, e)) (inl empty) = absurd (some empty)
-meant-told language token names word old new (inr (some, e)) (inr is) = (_, e, meant word is refl)
+meant-told : (language : Language) (token : Bare) (names : List (List ℕ)) (word old new : List ℕ) (asked : Option (List ℕ)) → AddsMeant word old new asked → IsGuess names word → AddsHint language token names old new asked
+meant-told language token names word old new asked (inl (empty, e, is)) guess = ([], e ∙ sym (append-nil old), none refl is)
+meant-told language token names word old new asked (inr (some, e, is)) (inl empty) = absurd (some empty)
+meant-told language token names word old new asked (inr (some, e, is)) (inr expected) = (_, e, meant word expected refl is)
 
-pub meant-result : {X E : Type 0} (result : Result X E) (language : Language) (token : Bare) (names : List (List ℕ)) (word old new : List ℕ) → OnOk result (AddsMeant word old new) → IsGuess names word → OnOk result (AddsHint language token names old new)
-meant-result (Ok x) language token names word old new told guess = meant-told language token names word old new told guess
+pub meant-result : {E : Type 0} (result : Result (Option (Bor (List ℕ))) E) (language : Language) (token : Bare) (names : List (List ℕ)) (word old new : List ℕ) → IfOk result (λ meant. AddsMeant word old new (word_of meant)) → IsGuess names word → IfOk result (λ meant. AddsHint language token names old new (word_of meant))
+meant-result (Ok word) language token names meant old new told guess = meant-told language token names meant old new (word_of word) told guess
 meant-result (Err refused) language token names word old new told guess = tt
 
 -- an expected keyword

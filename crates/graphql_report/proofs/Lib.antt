@@ -16,6 +16,7 @@ mod NamedOnly
 mod ExpectedNames
 mod Trees
 mod Placed
+mod TokensOf
 mod WordLists
 mod Hinted
 mod Refusing

@@ -4,3 +4,4 @@ pub mod Told
 pub mod Strings
 pub mod Carets
 pub mod Left
+pub mod OfText

@@ -1,4 +1,4 @@
-//! What could have stood in place of the refused token.
+//! What could have stood in place of the rejected token.
 ghost use Rattle.std.specs.Prelude.{◌≡◌, IfOk, IfSome};
 ghost use Rattle.std.specs.Str.{chars};
 ghost use Rattle.graphql_report.specs.fronts.Front.{LastIsLineFeed};
@@ -14,7 +14,7 @@ use crate::samples::{END, KEYWORDS, LITERALS, NAME, NAME_TEXT, PUNCTUATORS, Samp
 use graphql_parser::Limits;
 use std::alloc::{AllocError, Global};
 
-// The names of those of the samples that can stand after this line, after which this is left, where it is known.
+// The names of those of the samples that can stand after this line, after which this is left, if it is known.
 fn taken(
     alloc: Global,
     language: Language,
@@ -39,9 +39,9 @@ fn taken(
 }
 
 /// What is expected after a front: each sample such that some document within the limits begins with the front and the
-/// sample, and the end of the text where the front is a whole document. Keywords are left out where a plain name is expected.
-/// If the front has no fault, each token that can stand on the line after it is called by one of the names, and each name is
-/// that of such a token, or of the end.
+/// sample, and the end of the text if the front is a whole document. Keywords are left out if a plain name is expected.
+/// If the front has no fault, each token that can stand on the line after it is called by one of the names, and each
+/// name is that of such a token, or of the end.
 ///
 /// The front is read once, to find what is left of a document after it; each sample is tried with that.
 pub fn expected_after(
@@ -86,7 +86,7 @@ fn expected_in(
     Ok(names)
 }
 
-// A name and literals, or a value where all that a value may begin with is expected, but for a variable.
+// A name and literals, or a value if all that a value may begin with is expected, but for a variable.
 fn names_of_values(
     alloc: Global,
     has_name: bool,

@@ -5,7 +5,7 @@ ghost use Rattle.graphql_tokens.specs.tokens.Numbers.{AllDigits, is_e, is_sign a
 ghost use Rattle.graphql_tokens.specs.tokens.Strings.{is_plain as is_plain_char};
 ghost use Rattle.graphql_report.specs.inner.Strings.{HasBareExponent, HasBarePoint, HasNoUnit, IsAfter, IsShownEscape, IsSplit, Passes, TellsAhead};
 ghost use Rattle.graphql_report.specs.inner.Carets.{TellsEscape};
-ghost use Rattle.graphql_report.specs.reports.Faults.{begins_with_digit as digit_first, digit_after_dots as digit_follows, is_invisible as is_unseen, is_other_quote as is_quote, has_leading_zero as leading_zero, IsToldOfCharacter, IsToldOfDigits, IsToldOfFault};
+ghost use Rattle.graphql_report.specs.reports.Faults.{begins_with_digit as digit_first, digit_after_dots as digit_follows, is_invisible as is_unseen, is_other_quote as is_quote, has_leading_zero as leading_zero, number_of, IsToldOfCharacter, IsToldOfDigits, IsToldOfFault};
 ghost use Rattle.graphql_report.specs.reports.Words.{shown_for};
 
 use crate::excerpt::{is_line_end, push_shown, shown};
@@ -24,7 +24,7 @@ pub struct Fault {
 
 /// Says why no token begins with this text, which is not empty, where a value could stand or could not.
 ///
-/// What is told first is told: of a string the first bad escape, or else that it is not closed.
+/// Of a string the report is on the first bad escape, or else that it is not closed.
 pub fn fault_of(alloc: Global, text: &str, is_value: bool) -> Result<Fault, AllocError>
     ensures escape { IfOk result (λ fault. TellsEscape (chars text.now) fault.offset) }
     ensures told { IfOk result (λ fault. IsToldOfFault is_value (chars text.now) (string_bytes fault.message)) }
@@ -144,8 +144,8 @@ fn character_fault(alloc: Global, c: char) -> Result<String, AllocError>
 
 // What is wrong with a character that a person can't see.
 fn invisible_fault(alloc: Global, c: char) -> Result<String, AllocError>
-    ensures { IfOk result (λ told. (number : List ℕ) ×
-        (string_bytes told ≡ codes "the character U+" ++ (number ++ codes " begins no token"))) }
+    ensures { IfOk result (λ told.
+        string_bytes told ≡ codes "the character U+" ++ (number_of c ++ codes " begins no token")) }
 {
     let code = u32::from(c);
     let number = format!(in alloc; "{code:04X}")?;

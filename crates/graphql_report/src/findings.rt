@@ -9,10 +9,9 @@ ghost use Rattle.graphql_report.specs.reports.Refused.{IsKnown, IsRefusedFrom};
 ghost use Rattle.graphql_report.specs.reports.Reports.{IsPlaceIn};
 ghost use Rattle.graphql_report.specs.reports.Rests.{AreCounted, BeginsAt, top};
 
-use crate::definitions::offsets_of;
 use crate::fronts::{Language, end_of};
 use crate::refused::{before, reached_limit};
-use crate::report::{TOO_DEEP, details_of, limit_remark, place_told, remark_of, second_remark_of};
+use crate::report::{TOO_DEEP, details_of, limit_remark, place_told, remark_of};
 use crate::rests::ReadUpTo;
 use graphql_parser::lexer::Token;
 use graphql_parser::pos::PositionCalculator;
@@ -24,40 +23,18 @@ use std::alloc::{AllocError, Global};
 pub struct Finding {
     /// The first place of the report; None of an error that names none.
     pub place: Option<Pos>,
-    /// Where the refused token ends, before its next character; None where the error is about no one token.
+    /// Where the rejected token ends, before its next character; None if the error is about no one token.
     pub end: Option<Pos>,
     /// The name of the error's status, as C has it, without `GRAPHQL_PARSER_`.
     pub status: &'static str,
     /// What the first line of the report says after the place.
     pub message: String,
-    /// The word that may have been meant in place of the refused token, where the message asks for it.
+    /// The word that may have been meant in place of the rejected token, if the message asks for it.
     pub meant: Option<&'static str>,
 }
 
-/// Where the tokens stand that an error about definitions is about, as byte offsets. (This project's own type.)
-#[derive(Clone, Copy)]
-pub struct ErrorOffsets {
-    /// The token at the first place of the report; the length of the text where the error names none.
-    pub first: usize,
-    /// The token at the second place, and what the report says of it.
-    pub second: Option<(usize, &'static str)>,
-}
-
-/// Where the tokens stand in `text` that `error` is about, an error about definitions that a parser gave for it. Of other errors
-/// it gives the length of the text. One walk over the tokens finds them. An error says that memory was refused. (This project's
+/// What [`explain`](crate::explain) reports of an error, in parts and without the line of the place. (This project's
 /// own call.)
-pub fn error_offsets(alloc: Global, text: &str, error: &Error) -> Result<ErrorOffsets, AllocError> {
-    let offsets = offsets_of(alloc, text, error)?;
-    Ok(ErrorOffsets {
-        first: offsets.first,
-        second: match second_remark_of(error) {
-            Some(remark) => Some((offsets.second, remark)),
-            None => None,
-        },
-    })
-}
-
-/// What [`explain`](crate::explain) tells of an error, in parts and without the line of the place. (This project's own call.)
 ///
 /// It takes what `explain` takes, and as long. An error says that memory was refused.
 pub fn finding_of(
@@ -68,16 +45,16 @@ pub fn finding_of(
     error: &Error,
 ) -> Result<Finding, AllocError>
     ensures { IfOk result (IsFinding (IsRefusedFrom language limits text.now top) language limits text.now
-        top error.now) }
+        top None error.now) }
 {
     let read = ReadUpTo::refused(alloc, language, text, limits, error)?;
     finding_from(alloc, language, text, &read, limits, error)
 }
 
-/// What [`finding_of`] gives, of a text that was read from a later line on, up to a token that is known. The caller owes that
-/// the line begins where `read` says, and that the token is the refused one. What stands before isn't read, but where a place
-/// is counted: that of an escape in a string, and of a token that nests too deep. The places of `error` are those in the whole
-/// text. (This project's own call.)
+/// What [`finding_of`] returns, of a text that was read from a later line on, up to a token that is known. The caller
+/// owes that the line begins where `read` says, and that the token is the rejected one. What stands before isn't read,
+/// unless a place is counted: that of an escape in a string, and of a token that nests too deep. The places of `error`
+/// are those in the whole text. (This project's own call.)
 pub fn finding_from(
     alloc: Global,
     language: Language,
@@ -88,7 +65,7 @@ pub fn finding_from(
 ) -> Result<Finding, AllocError>
     requires { BeginsAt text.now read.now.from }
     ensures { IfOk result (IsFinding (IsKnown language limits text.now read.now) language limits text.now
-        read.now.from error.now) }
+        read.now.from read.now.unclosed error.now) }
 {
     match error {
         Error::Syntax { start, .. } => {
@@ -105,7 +82,7 @@ pub fn finding_from(
     }
 }
 
-// A refused token.
+// A rejected token.
 fn syntax_finding(
     alloc: Global,
     language: Language,
@@ -117,7 +94,7 @@ fn syntax_finding(
     requires { BeginsAt text.now read.now.from }
     ensures { IfOk result (λ finding. (message : String Global) (stop : Option Pos) →
         IsFinding (IsKnown language limits text.now read.now) language limits text.now read.now.from
-        (Syntax message start stop) finding) }
+        read.now.unclosed (Syntax message start stop) finding) }
 {
     let details = details_of(alloc, language, text, read, limits)?;
     let place = place_told(text, start, details.offset, details.is_inside);
@@ -146,7 +123,7 @@ fn limit_finding(
 ) -> Result<Finding, AllocError>
     requires { BeginsAt text.now read.now.from }
     ensures { IfOk result (IsFinding (IsKnown language limits text.now read.now) language limits text.now
-        read.now.from RecursionLimitExceeded) }
+        read.now.from read.now.unclosed RecursionLimitExceeded) }
 {
     let status = "RECURSION_LIMIT_EXCEEDED";
     let Some(token) = read.token else {

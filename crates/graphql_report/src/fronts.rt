@@ -57,7 +57,7 @@ pub fn is_whole(
     }
 }
 
-// What the check of the language tells of the text.
+// What the check of the language reports of the text.
 fn check(alloc: Global, language: Language, text: &str, limits: Limits) -> Result<(), Error>
     ensures { ReadsAs language limits text.now result }
 {

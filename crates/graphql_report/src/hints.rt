@@ -1,12 +1,11 @@
-//! What was meant, as far as that can be guessed from the refused token and from what was expected.
-ghost use Rattle.std.specs.Prelude.{◌≡◌, ◌⊎◌, ◌++◌, codes, IfOk, IfSome, OnOk, string_bytes};
-ghost use Rattle.std.specs.Fmt.{decimal};
+//! What was meant, as far as that can be guessed from the rejected token and from what was expected.
+ghost use Rattle.std.specs.Prelude.{◌≡◌, ◌⊎◌, IfOk, IfSome, OnOk, string_bytes};
 ghost use Rattle.graphql_tokens.specs.tokens.Seen.{seen};
 ghost use Rattle.graphql_report.specs.inner.Called.{texts};
 ghost use Rattle.graphql_report.specs.inner.Told.{Adds, AddsHint, AddsMeant};
 ghost use Rattle.graphql_report.specs.reports.Expected.{quoted};
 ghost use Rattle.graphql_report.specs.reports.Faults.{expects_value as is_value_expected};
-ghost use Rattle.graphql_report.specs.reports.Hints.{IsWordOf, begins_in_schemas as begins_schemas, is_among, is_of_other_language as is_of_other, other_language};
+ghost use Rattle.graphql_report.specs.reports.Hints.{IsWordOf, begins_in_schemas as begins_schemas, is_among, is_of_other_language as is_of_other, other_language, unclosed_hint, word_of};
 ghost use Rattle.graphql_report.specs.reports.Words.{is_no_enum_value as is_no_value};
 
 use crate::fronts::Language;
@@ -65,8 +64,8 @@ fn begins_in_schemas(word: &str) -> bool
     EXTENDED.contains(&word) || word == "extend" || word == "directive"
 }
 
-/// Adds what may have been meant in place of the refused token, or why it can't stand there; nothing where neither is known. It
-/// gives the word that may have been meant, where it is one.
+/// Adds what may have been meant in place of the rejected token, or why it can't stand there; nothing if neither is
+/// known. It returns the word that may have been meant, if it is one.
 pub fn push_hint(
     alloc: Global,
     out: &mut String,
@@ -75,8 +74,8 @@ pub fn push_hint(
     token: &Token<'_>,
     expected: &[&'static str],
 ) -> Result<Option<&'static str>, AllocError>
-    ensures { OnOk result (AddsHint language (seen token.now).bare (texts expected.now)
-        (string_bytes out.old) (string_bytes out.new)) }
+    ensures { IfOk result (λ meant. AddsHint language (seen token.now).bare (texts expected.now)
+        (string_bytes out.old) (string_bytes out.new) (word_of meant)) }
 {
     if is_of_other_language(language, token, expected) {
         push_other_language(out, language, token)?;
@@ -102,9 +101,7 @@ pub fn push_hint(
 
 /// Adds that a block string isn't closed, which probably begins at this place.
 pub fn push_unclosed(out: &mut String, place: Pos) -> Result<(), AllocError>
-    ensures { OnOk result (Adds (codes " (the block string that begins at " ++
-        (decimal place.line ++ codes ":" ++ decimal place.column) ++ codes " is probably not closed)")
-        (string_bytes out.old) (string_bytes out.new)) }
+    ensures { OnOk result (Adds (unclosed_hint place) (string_bytes out.old) (string_bytes out.new)) }
 {
     write!(
         out,
@@ -159,7 +156,7 @@ fn is_of_other_language(language: Language, token: &Token<'_>, expected: &[&'sta
             let is_description = matches!(token.kind, TokenKind::String | TokenKind::Block);
             expects(expected, "\"fragment\"") && (is_description || begins_in_schemas(word))
         }
-        // A brace may be meant for the definition before it, where there is one.
+        // A brace may be meant for the definition before it, if there is one.
         Language::Schemas => {
             let is_first = !expects(expected, END);
             expects(expected, "\"extend\"")
@@ -169,8 +166,8 @@ fn is_of_other_language(language: Language, token: &Token<'_>, expected: &[&'sta
     }
 }
 
-/// Whether one of the three names that are no enum values stands where a value of an enum could: they stand wherever else a
-/// name of a schema file may.
+/// Whether one of the three names that are no enum values stands where a value of an enum could: they stand wherever
+/// else a name of a schema file may.
 pub fn is_no_enum_value(language: Language, token: &Token<'_>, expected: &[&'static str]) -> bool
     ensures { result ≡ is_no_value language (seen token.now).bare.spelling (texts expected.now) }
 {
@@ -187,8 +184,8 @@ fn means_implements(text: &str, token: &Token<'_>) -> bool {
     token.text == "extends" && !is_extension
 }
 
-// The expected keyword, or the location of a directive, that is most like the name that was found, if it has two thirds of
-// it. Small and capital letters make no difference.
+// The expected keyword, or the location of a directive, that is most like the name that was found, if it has two thirds
+// of it. Small and capital letters make no difference.
 fn push_guess(
     alloc: Global,
     out: &mut String,
@@ -196,8 +193,8 @@ fn push_guess(
     token: &Token<'_>,
     expected: &[&'static str],
 ) -> Result<Option<&'static str>, AllocError>
-    ensures { OnOk result (AddsHint language (seen token.now).bare (texts expected.now)
-        (string_bytes out.old) (string_bytes out.new)) }
+    ensures { IfOk result (λ meant. AddsHint language (seen token.now).bare (texts expected.now)
+        (string_bytes out.old) (string_bytes out.new) (word_of meant)) }
 {
     if token.text.len() > LONGEST_WORD {
         return Ok(None);
@@ -234,9 +231,10 @@ fn better_of(
     Ok(best)
 }
 
-// Adds a guess, if there is one, and gives it.
+// Adds a guess, if there is one, and returns it.
 fn push_meant(out: &mut String, word: &'static str) -> Result<Option<&'static str>, AllocError>
-    ensures { OnOk result (AddsMeant word.now (string_bytes out.old) (string_bytes out.new)) }
+    ensures { IfOk result (λ meant.
+        AddsMeant word.now (string_bytes out.old) (string_bytes out.new) (word_of meant)) }
 {
     if word.is_empty() {
         return Ok(None);

@@ -18,7 +18,7 @@ use graphql_parser::{Limits, Memory};
 use graphql_reading::parser::Parser;
 use std::alloc::{AllocError, Global};
 
-/// What is left after the tokens of the front, the next phrase last. It takes one reading of the front. Gives none where
+/// What is left after the tokens of the front, the next phrase last. It takes one reading of the front. Returns none if
 /// the front isn't viable.
 pub fn left_after(
     alloc: Global,
@@ -87,7 +87,8 @@ fn is_last(token: &Token<'_>) -> bool
     matches!(token.kind, TokenKind::End | TokenKind::Fault)
 }
 
-/// Whether a line after which this is left can go on with this sample, the text of one token; of any other text none is given.
+/// Whether a line after which this is left can go on with this sample, the text of one token; of any other text none is
+/// given.
 pub fn can_go_on(
     alloc: Global,
     left: &[Phrase],

@@ -51,7 +51,7 @@ pub enum Keyword {
     Union,
 }
 
-/// A phrase of a grammar. Where it says `variables`, it is told whether a value may be a variable; `levels` are how many
+/// A phrase of a grammar. Where it says `variables`, it says whether a value may be a variable; `levels` are how many
 /// lists and objects, lists of a type, or selection sets may nest in it.
 #[derive(Clone, Copy)]
 pub enum Phrase {
@@ -132,7 +132,7 @@ pub enum Phrase {
     Selections { levels: usize },
     /// `Selection : Field | FragmentSpread | InlineFragment`
     Selection { levels: usize },
-    /// What stands after the first name of a field, where that is an alias: `(':' Name)?`
+    /// What stands after the first name of a field, if that is an alias: `(':' Name)?`
     MaybeAliased,
     /// `SelectionSet?`
     MaybeSet { levels: usize },

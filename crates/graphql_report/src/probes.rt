@@ -24,8 +24,8 @@ pub fn line_of(alloc: Global, front: &str) -> Result<String, AllocError>
     Ok(line)
 }
 
-/// Whether some document within the limits begins with this line and the sample after it. That is told by what is left after
-/// the line, where it is known, and else by a check.
+/// Whether some document within the limits begins with this line and the sample after it. That is decided by what is
+/// left after the line, if it is known, and else by a check.
 pub fn takes(
     alloc: Global,
     language: Language,
@@ -65,7 +65,7 @@ pub fn passes(
     is_front(alloc, language, text.as_str(), limits)
 }
 
-/// Whether this line is a whole document within the limits, or one but for a rule; told likewise.
+/// Whether this line is a whole document within the limits, or one but for a rule; decided likewise.
 pub fn ends(
     alloc: Global,
     language: Language,

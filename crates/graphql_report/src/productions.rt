@@ -1,4 +1,4 @@
-//! What a phrase consists of, by the token in hand.
+//! What a phrase consists of, by the lookahead.
 ghost use Rattle.std.specs.Prelude.{◌≡◌, ◌≤◌, ◌++◌, ◌∷◌, ◌||◌, ◌&&◌, [], cond, drop, length, not, reverse, OnOk};
 ghost use Rattle.graphql_reading.specs.grammar.Limits.{Limits as Budgets};
 ghost use Rattle.graphql_reading.specs.grammar.Tests.{punct};
@@ -50,7 +50,7 @@ fn either(
     }
 }
 
-/// Puts what a phrase consists of, by the token in hand, in its place.
+/// Puts what a phrase consists of, by the lookahead, in its place.
 pub fn take_apart(
     left: &mut Vec<Phrase>,
     phrase: Phrase,
@@ -171,7 +171,7 @@ pub fn take_apart(
     }
 }
 
-// Whether a value is in hand that is neither a list nor an object.
+// Whether the lookahead begins a value that is neither a list nor an object.
 fn is_at_simple(parser: &Parser, variables: bool) -> bool
     ensures { result ≡ simple_first variables parser.now.hand.bare }
 {
@@ -183,7 +183,7 @@ fn is_at_simple(parser: &Parser, variables: bool) -> bool
         || (parser.is_at_punct("$") && variables)
 }
 
-// Whether a value is in hand.
+// Whether the lookahead begins a value.
 fn is_at_value(parser: &Parser, variables: bool) -> bool
     ensures { result ≡ value_first variables parser.now.hand.bare }
 {
@@ -627,7 +627,7 @@ fn take_type_definition_apart(
     }
 }
 
-// Whether a value of an enum is in hand: its description, or its name.
+// Whether the lookahead begins a value of an enum: its description, or its name.
 fn is_at_enum_value(parser: &Parser) -> bool
     ensures { result ≡ enum_value_first parser.now.hand.bare }
 {
@@ -688,14 +688,14 @@ fn take_input_apart(
     }
 }
 
-// Whether directives are in hand, or what begins with this punctuator.
+// Whether the lookahead begins directives, or what begins with this punctuator.
 fn is_at_part(parser: &Parser, mark: Mark) -> bool
     ensures { result ≡ part_first (punct (mark_text mark)) parser.now.hand.bare }
 {
     parser.is_at_punct("@") || is_at(parser, mark)
 }
 
-// Whether interfaces, directives or fields are in hand.
+// Whether the lookahead begins interfaces, directives or fields.
 fn is_at_field_part(parser: &Parser) -> bool
     ensures { result ≡ field_part_first parser.now.hand.bare }
 {
@@ -755,7 +755,7 @@ fn owed(
     either(left, !extend || is_there, parts, &[Phrase::Never])
 }
 
-// The keyword of a type that is in hand, or the last of these, and its kind.
+// The keyword of a type at the lookahead, or the last of these, and its kind.
 fn word_of(parser: &Parser) -> (Keyword, Word)
     ensures { result ≡ word_by parser.now.hand.bare }
 {

@@ -1,9 +1,10 @@
-//! Where a text is refused, and by which limit.
+//! Where a text is rejected, and by which limit.
 ghost use Rattle.std.specs.Prelude.{◌≡◌, ◌↔◌, ◌⊎◌, ℕ, IsTrue, IfOk, List, [], ◌++◌, take, drop, Err};
 ghost use Rattle.std.specs.Str.{IsCharBoundary};
 ghost use Rattle.graphql_grammar.specs.declared.error.Error.TheVariants.{OutOfMemory, RecursionLimitExceeded};
 ghost use Rattle.graphql_report.specs.inner.Told.{ReadsTo};
 ghost use Rattle.graphql_report.specs.reports.Refused.{IsOfAToken, IsItsToken};
+ghost use Rattle.graphql_report.specs.reports.Reports.{IsLimitNamed};
 ghost use Rattle.graphql_report.specs.reports.Rests.{BeginsAt, top};
 
 use crate::fronts::Language;
@@ -14,7 +15,7 @@ use graphql_parser::lexer::Token;
 use graphql_parser::{Error, Limits, Memory, check_query_to, check_schema_to};
 use std::alloc::{AllocError, Global};
 
-/// The parts of `text` before this offset and from it on; the whole text and nothing where the offset is none of its.
+/// The parts of `text` before this offset and from it on; the whole text and nothing if the offset is none of its.
 pub fn split(text: &str, offset: usize) -> (&str, &str)
     ensures whole { text.now ≡ result.0.now ++ result.1.now }
     ensures back { IsCharBoundary text.now offset → result.1.now ≡ drop offset text.now }
@@ -27,7 +28,7 @@ pub fn split(text: &str, offset: usize) -> (&str, &str)
     }
 }
 
-/// The part of `text` before this offset; the whole text where the offset is none of its.
+/// The part of `text` before this offset; the whole text if the offset is none of its.
 pub fn before(text: &str, offset: usize) -> &str
     ensures begins { (rest : List ℕ) × (text.now ≡ result.now ++ rest) }
     ensures front { IsCharBoundary text.now offset → result.now ≡ take offset text.now }
@@ -35,18 +36,18 @@ pub fn before(text: &str, offset: usize) -> &str
     split(text, offset).0
 }
 
-/// The part of `text` from this offset on; nothing where the offset is none of its.
+/// The part of `text` from this offset on; nothing if the offset is none of its.
 pub fn after(text: &str, offset: usize) -> &str
     ensures { IsCharBoundary text.now offset → result.now ≡ drop offset text.now }
 {
     split(text, offset).1
 }
 
-/// The refused token of a text that `error` refuses: the first token such that no document within the limits begins with
-/// the tokens up to it, itself included.
+/// The rejected token of a text that `error` rejects: the first token such that no document within the limits begins
+/// with the tokens up to it, itself included.
 ///
 /// One check of the text finds it. None of an error about definitions, or
-/// where the text isn't refused. An error says that memory was refused. (This project's own call.)
+/// if the text isn't rejected. An error says that memory was refused. (This project's own call.)
 pub fn refused_token<'a>(
     alloc: Global,
     language: Language,
@@ -63,8 +64,8 @@ pub fn refused_token<'a>(
     }
 }
 
-/// As [`refused_token`], of a text that was read from this line on: what stands before is not looked at. The caller owes that
-/// the line begins there. The place of the token is that in the whole text. (This project's own call.)
+/// As [`refused_token`], of a text that was read from this line on: what stands before is not looked at. The caller
+/// owes that the line begins there. The place of the token is that in the whole text. (This project's own call.)
 pub fn refused_token_from<'a>(
     alloc: Global,
     language: Language,
@@ -84,14 +85,14 @@ pub fn refused_token_from<'a>(
     })
 }
 
-/// Whether the error is one of a refused token.
+/// Whether the error is one of a rejected token.
 pub fn is_of_token(error: &Error) -> bool
     ensures { IsTrue result ↔ IsOfAToken error.now }
 {
     matches!(error, Error::Syntax { .. } | Error::RecursionLimitExceeded)
 }
 
-// The refused token of a text, if it has one.
+// The rejected token of a text, if it has one.
 fn refused_in<'a>(
     alloc: Global,
     language: Language,
@@ -114,7 +115,7 @@ fn is_out_of_memory(answer: &Result<(), Error>) -> bool
     matches!(answer, Err(Error::OutOfMemory))
 }
 
-// What the check of the language tells of the text, and the refused token.
+// What the check of the language reports of the text, and the rejected token.
 fn check_to<'a>(
     alloc: Global,
     language: Language,
@@ -137,9 +138,9 @@ pub struct Depth {
     pub most: usize,
 }
 
-/// Which limit refuses the token. Where a number could stand, a value begins: there the token opens a list or an object.
-/// Elsewhere a `[` opens a list type. What is left opens a selection set, or has to have one after it, as the `on` and the
-/// `@` of an inline fragment.
+/// Which limit rejects the token. If a number could stand, a value begins: there the token opens a list or an object.
+/// Elsewhere a `[` opens a list type. What is left opens a selection set, or has to have one after it, as the `on` and
+/// the `@` of an inline fragment.
 pub fn reached_limit(
     alloc: Global,
     language: Language,
@@ -147,7 +148,9 @@ pub fn reached_limit(
     from: ReadFrom,
     limits: Limits,
     token: &Token<'_>,
-) -> Result<Depth, AllocError> {
+) -> Result<Depth, AllocError>
+    ensures { IfOk result (λ depth. IsLimitNamed limits depth.what.now depth.most) }
+{
     let line = line_of(alloc, read_before(text, from, token.start))?;
     let (what, most) = if passes(alloc, language, limits, line.as_str(), NUMBER_TEXT)? {
         ("lists and objects", limits.values())

@@ -7,12 +7,14 @@ ghost use Rattle.graphql_report.specs.declared.style.Style.TheVariants.{Plain};
 ghost use Rattle.graphql_tokens.specs.tokens.Seen.{seen};
 ghost use Rattle.graphql_report.specs.inner.Carets.{IsCaretAt, IsWrongAfter};
 ghost use Rattle.graphql_report.specs.inner.Called.{texts};
-ghost use Rattle.graphql_report.specs.inner.Told.{AddsHint, IsWrong};
+ghost use Rattle.graphql_report.specs.inner.Told.{AddsHintFor, IsWrong};
+ghost use Rattle.graphql_report.specs.reports.Hints.{unclosed_part, word_of};
+ghost use Rattle.graphql_report.specs.reports.Offsets.{second_remark};
 ghost use Rattle.graphql_report.specs.reports.Refused.{IsKnown, IsRefusedFrom};
 ghost use Rattle.graphql_report.specs.reports.Rests.{BeginsAt, top};
-ghost use Rattle.graphql_report.specs.reports.Reports.{AreDetails, IsReport, TellsSyntax, TellsLimit, Tells, TellsPlaces, named as named_by};
+ghost use Rattle.graphql_report.specs.reports.Reports.{AreDetails, IsReport, IsReportWith, limit_words, TellsSyntax, TellsLimit, Tells, TellsPlaces, named as named_by};
 
-use crate::definitions::offsets_of;
+use crate::definitions::error_offsets;
 use crate::excerpt::excerpt_of;
 use crate::expected::expected_after;
 use crate::faults::fault_of;
@@ -26,35 +28,21 @@ use graphql_parser::lexer::{Token, TokenKind};
 use graphql_parser::{Error, Limits, Pos};
 use std::alloc::{AllocError, Global};
 
-/// What is told of a text that nests too deep.
+/// What is reported of a text that nests too deep.
 pub const TOO_DEEP: &str = "recursion limit exceeded";
 
-const OF_ROOTS: Remarks = Remarks {
-    first: "",
-    second: "the schema begins here",
-};
-
-const OF_OPERATIONS: Remarks = Remarks {
-    first: ", and this one has no name",
-    second: "another operation is here",
-};
-
-const OF_NAMESAKES: Remarks = Remarks {
-    first: "",
-    second: "it is first defined here",
-};
-
-/// A report of `error` for people, which a parser gave for `text` at these limits; each line ends in a line feed.
+/// A report of `error` for people, which a parser returned for `text` at these limits; each line ends in a line feed.
 ///
 /// It begins with `FILE:LINE:COL: ` and the message, where `FILE` is `file_name` as it is; then the line of the place
-/// follows, with a caret under it; and where the error has two places, the second follows in the same way. For a `Syntax`
-/// error the message tells what was found, or what is wrong where no token begins, and what was expected; its place is the
-/// error's, but for a bad escape in a string, where it is that of the first one. An error without a place has the one line
-/// `FILE: ` and the message. Where `file_name` is empty, `FILE:` is left out everywhere. (This project's own call.)
+/// follows, with a caret under it; and if the error has two places, the second follows in the same way. For a `Syntax`
+/// error the message reports what was found, or what is wrong where no token begins, and what was expected; its place
+/// is the error's, but for a bad escape in a string, where it is that of the first one. An error without a place has
+/// the one line `FILE: ` and the message. If `file_name` is empty, `FILE:` is left out everywhere. (This project's own
+/// call.)
 ///
-/// `limits` are those that the parser was given, `Limits::default()` for the calls without limits. The text is read twice: one
-/// check finds the refused token, and what stands before it is read once to find what was expected; a limit takes a third
-/// reading. An error says that memory was refused.
+/// `limits` are those that the parser was given, `Limits::default()` for the calls without limits. The text is read
+/// twice: one check finds the rejected token, and what stands before it is read once to find what was expected; a limit
+/// takes a third reading. An error says that memory was refused.
 pub fn explain(
     alloc: Global,
     language: Language,
@@ -78,7 +66,7 @@ pub fn explain(
     )
 }
 
-/// What [`explain`] gives, in this style. (This project's own call.)
+/// What [`explain`] returns, in this style. (This project's own call.)
 pub fn explain_in(
     style: Style,
     alloc: Global,
@@ -96,11 +84,11 @@ pub fn explain_in(
     explain_from(style, alloc, language, file_name, text, read, limits, error)
 }
 
-/// What [`explain_in`] gives, of a text that was read from a later line on, up to a token that is known. The caller owes that
-/// the line begins where `read` says, and that the token is the refused one. What stands before
-/// isn't read, but for the line of the place, and where a place is counted: that of an escape in a string, and of a token that
-/// nests too deep. The places of `error` are those in the whole text. An error about definitions is looked for in the whole
-/// text. (This project's own call.)
+/// What [`explain_in`] returns, of a text that was read from a later line on, up to a token that is known. The caller
+/// owes that the line begins where `read` says, and that the token is the rejected one. What stands before isn't read,
+/// but for the line of the place, and where a place is counted: that of an escape in a string, and of a token that
+/// nests too deep. The places of `error` are those in the whole text. An error about definitions is looked for in the
+/// whole text. (This project's own call.)
 pub fn explain_from(
     style: Style,
     alloc: Global,
@@ -113,8 +101,8 @@ pub fn explain_from(
 ) -> Result<String, AllocError>
     requires { BeginsAt text.now read.now.from }
     ensures { IfOk result (λ report.
-        IsReport style file_name.now (IsKnown language limits text.now read.now) language limits text.now
-        read.now.from error.now (string_bytes report)) }
+        IsReportWith style file_name.now (IsKnown language limits text.now read.now) language limits text.now
+        read.now.from read.now.unclosed error.now (string_bytes report)) }
 {
     let source = &Source {
         style,
@@ -130,15 +118,15 @@ pub fn explain_from(
         Error::MissingOperation | Error::OutOfMemory => explain_plain(alloc, file_name, error),
         Error::MissingQueryRoot { pos } => explain_place(alloc, source, error, *pos),
         Error::MultipleRoots { schema, pos, .. } => {
-            explain_places(alloc, source, error, *pos, *schema, OF_ROOTS)
+            explain_places(alloc, source, error, *pos, *schema)
         }
         Error::MultipleOperations {
             anonymous,
             operation,
-        } => explain_places(alloc, source, error, *anonymous, *operation, OF_OPERATIONS),
+        } => explain_places(alloc, source, error, *anonymous, *operation),
         Error::OperationDuplicated { first, second, .. }
         | Error::FragmentDuplicated { first, second, .. } => {
-            explain_places(alloc, source, error, *second, *first, OF_NAMESAKES)
+            explain_places(alloc, source, error, *second, *first)
         }
     }
 }
@@ -181,7 +169,7 @@ fn told_at(
     Ok(out)
 }
 
-// The name of a file and a mark after it; nothing where the file has no name.
+// The name of a file and a mark after it; nothing if the file has no name.
 fn named(alloc: Global, file_name: &str, mark: &str) -> Result<String, AllocError>
     ensures { IfOk result (λ shown. string_bytes shown ≡ named_by file_name.now mark.now) }
 {
@@ -194,7 +182,7 @@ fn named(alloc: Global, file_name: &str, mark: &str) -> Result<String, AllocErro
 // An error without a place.
 fn explain_plain(alloc: Global, file_name: &str, error: &Error) -> Result<String, AllocError>
     ensures { IfOk result (λ report.
-        TellsPlaces Plain file_name.now (error_text error.now) [] (string_bytes report)) }
+        TellsPlaces Plain file_name.now (error_text error.now) [] [] (string_bytes report)) }
 {
     let message = format!(in alloc; "{error}")?;
     let mut out = named(alloc, file_name, ": ")?;
@@ -203,9 +191,9 @@ fn explain_plain(alloc: Global, file_name: &str, error: &Error) -> Result<String
     Ok(out)
 }
 
-// ---- refused texts
+// ---- rejected texts
 
-// A text that is refused at this place.
+// A text that is rejected at this place.
 fn explain_syntax(
     alloc: Global,
     source: &Source<'_>,
@@ -217,7 +205,7 @@ fn explain_syntax(
     requires { BeginsAt text.now source.now.read.now.from }
     ensures { IfOk result (λ report. TellsSyntax source.now.style source.now.file_name.now
         (IsKnown language limits text.now source.now.read.now) language limits
-        text.now source.now.read.now.from start (string_bytes report)) }
+        text.now source.now.read.now.from source.now.read.now.unclosed start (string_bytes report)) }
 {
     let details = details_of(alloc, language, text, source.read, limits)?;
     let place = place_told(text, start, details.offset, details.is_inside);
@@ -234,7 +222,7 @@ fn explain_syntax(
     )
 }
 
-/// What is told of a refused token.
+/// What is reported of a rejected token.
 #[derive(Drop)]
 pub struct Details {
     /// What was found, or what is wrong there, and what was expected.
@@ -258,7 +246,7 @@ pub fn place_told(text: &str, start: Pos, offset: usize, is_inside: bool) -> Pos
     start
 }
 
-/// What is told of the token up to which a text was read.
+/// What is reported of the token up to which a text was read.
 pub fn details_of(
     alloc: Global,
     language: Language,
@@ -268,7 +256,7 @@ pub fn details_of(
 ) -> Result<Details, AllocError>
     requires { BeginsAt text.now read.now.from }
     ensures told { IfOk result (λ details. AreDetails (IsKnown language limits text.now read.now) language limits
-        text.now read.now.from (string_bytes details.message)) }
+        text.now read.now.from read.now.unclosed (string_bytes details.message) (word_of details.meant)) }
     ensures caret { IfOk result (λ details. IsCaretAt (IsKnown language limits text.now read.now) text.now
         details.offset details.is_inside) }
 {
@@ -295,7 +283,7 @@ pub fn details_of(
     })
 }
 
-// Adds what was found, or what is wrong where no token begins, and gives how many bytes after the place that shows.
+// Adds what was found, or what is wrong where no token begins, and returns how many bytes after the place that shows.
 fn push_wrong(
     alloc: Global,
     out: &mut String,
@@ -318,7 +306,7 @@ fn push_wrong(
     Ok(0)
 }
 
-// Adds what was meant, as far as that is known, and gives the word that may have been.
+// Adds what was meant, as far as that is known, and returns the word that may have been.
 fn push_more(
     alloc: Global,
     out: &mut String,
@@ -328,8 +316,8 @@ fn push_more(
     token: &Token<'_>,
     expected: &[&'static str],
 ) -> Result<Option<&'static str>, AllocError>
-    ensures { OnOk result (AddsHint language (seen token.now).bare (texts expected.now)
-        (string_bytes out.old) (string_bytes out.new)) }
+    ensures { IfOk result (λ meant. AddsHintFor read.now.unclosed language (seen token.now).bare
+        (texts expected.now) (string_bytes out.old) (string_bytes out.new) (word_of meant)) }
 {
     if let Some(place) = read.unclosed {
         push_unclosed(out, place)?;
@@ -348,8 +336,8 @@ fn explain_limit(
 ) -> Result<String, AllocError>
     requires { BeginsAt text.now source.now.read.now.from }
     ensures { IfOk result (λ report. TellsLimit source.now.style source.now.file_name.now
-        (IsKnown language limits text.now source.now.read.now) text.now
-        (string_bytes report)) }
+        (IsKnown language limits text.now source.now.read.now) limits text.now
+        source.now.read.now.unclosed (string_bytes report)) }
 {
     let read = source.read;
     let Some(token) = read.token else {
@@ -367,12 +355,16 @@ pub fn limit_remark(
     alloc: Global,
     depth: &Depth,
     read: &ReadUpTo<'_>,
-) -> Result<String, AllocError> {
+) -> Result<String, AllocError>
+    ensures { IfOk result (λ told.
+        string_bytes told ≡ limit_words depth.now.what.now depth.now.most ++ unclosed_part read.now.unclosed) }
+{
     let Depth { what, most } = *depth;
     let mut remark = format!(in alloc; ": {what} may nest {most} deep")?;
-    if let Some(place) = read.unclosed {
-        push_unclosed(&mut remark, place)?;
-    }
+    let Some(place) = read.unclosed else {
+        return Ok(remark);
+    };
+    push_unclosed(&mut remark, place)?;
     Ok(remark)
 }
 
@@ -389,39 +381,16 @@ fn explain_place(
         Tells source.now.style source.now.file_name.now place (error_text error.now)
         (string_bytes report)) }
 {
-    let offsets = offsets_of(alloc, source.text, error)?;
+    let offsets = error_offsets(alloc, source.text, error)?;
     let message = format!(in alloc; "{error}")?;
     told_at(alloc, source, place, offsets.first, message.as_str(), "")
-}
-
-// What an error with two places says after its message, and of the second place.
-#[derive(Clone, Copy)]
-struct Remarks {
-    first: &'static str,
-    second: &'static str,
 }
 
 /// What is said after the message of an error, before the line of its first place.
 pub fn remark_of(error: &Error) -> &'static str {
     match error {
-        Error::MultipleOperations { .. } => OF_OPERATIONS.first,
+        Error::MultipleOperations { .. } => ", and this one has no name",
         _ => "",
-    }
-}
-
-/// What a report says of the second place of an error; None of an error that has one place at most.
-pub fn second_remark_of(error: &Error) -> Option<&'static str> {
-    match error {
-        Error::MultipleRoots { .. } => Some(OF_ROOTS.second),
-        Error::MultipleOperations { .. } => Some(OF_OPERATIONS.second),
-        Error::OperationDuplicated { .. } | Error::FragmentDuplicated { .. } => {
-            Some(OF_NAMESAKES.second)
-        }
-        Error::Syntax { .. }
-        | Error::RecursionLimitExceeded
-        | Error::MissingQueryRoot { .. }
-        | Error::MissingOperation
-        | Error::OutOfMemory => None,
     }
 }
 
@@ -432,17 +401,24 @@ fn explain_places(
     error: &Error,
     first: Pos,
     second: Pos,
-    remarks: Remarks,
 ) -> Result<String, AllocError>
     ensures { IfOk result (λ report.
-        TellsPlaces source.now.style source.now.file_name.now (error_text error.now)
+        TellsPlaces source.now.style source.now.file_name.now (error_text error.now) (second_remark error.now)
         (first ∷ second ∷ []) (string_bytes report)) }
 {
-    let offsets = offsets_of(alloc, source.text, error)?;
+    let offsets = error_offsets(alloc, source.text, error)?;
     let message = format!(in alloc; "{error}")?;
     let message = message.as_str();
-    let mut report = told_at(alloc, source, first, offsets.first, message, remarks.first)?;
-    let other = told_at(alloc, source, second, offsets.second, remarks.second, "")?;
+    let (offset, remark) = offsets.second.unwrap_or((source.text.len(), ""));
+    let mut report = told_at(
+        alloc,
+        source,
+        first,
+        offsets.first,
+        message,
+        remark_of(error),
+    )?;
+    let other = told_at(alloc, source, second, offset, remark, "")?;
     report.push_str(other.as_str())?;
     Ok(report)
 }

@@ -1,4 +1,5 @@
-//! Texts that are read from a later line on: where that line begins, and which place in the whole text a place in the rest is.
+//! Texts that are read from a later line on: where that line begins, and which place in the whole text a place in the
+//! rest is.
 ghost use Rattle.std.specs.Prelude.{◌≡◌, ◌+◌, ◌<◌, ◌^◌, ◌-◌, take, drop, IsTrue, IfSome};
 ghost use Rattle.std.specs.List.{count_by};
 ghost use Rattle.std.specs.Str.{chars, IsCharBoundary};
@@ -32,8 +33,8 @@ impl ReadFrom {
         ReadFrom { offset: 0, line: 1 }
     }
 
-    /// The line that begins at this offset of the text, where a line begins there that isn't before this one. The caller owes
-    /// that this one begins in the text as it says. Only the text between both is read. (This project's own call.)
+    /// The line that begins at this offset of the text, if a line begins there that isn't before this one. The caller
+    /// owes that this one begins in the text as it says. Only the text between both is read. (This project's own call.)
     pub fn later(self, text: &str, offset: usize) -> Option<ReadFrom>
         requires { BeginsAt text.now self }
         ensures { IfSome result (λ next. (next.offset ≡ offset) × BeginsAt text.now next) }
@@ -95,23 +96,24 @@ fn line_feeds(text: &str) -> usize
     feeds
 }
 
-/// What is known of the reading of a text that is refused, beside the error. (This project's own type.)
+/// What is known of the reading of a text that is rejected, beside the error. (This project's own type.)
 #[derive(Clone, Copy)]
 pub struct ReadUpTo<'a> {
     /// Where it began.
     pub from: ReadFrom,
-    /// The token at which it ended: the refused one, as [`refused_token_from`](crate::refused_token_from) gives it; None of an
-    /// error about definitions.
+    /// The token at which it ended: the rejected one, as [`refused_token_from`](crate::refused_token_from) returns it;
+    /// None of an error about definitions.
     pub token: Option<Token<'a>>,
-    /// Where a block string begins that is probably not closed, if the report is to say so after what it says of the token.
+    /// Where a block string begins that is probably not closed, if the report is to say so after what it reports of the
+    /// token.
     pub unclosed: Option<Pos>,
 }
 
 impl<'a> ReadUpTo<'a> {
-    ghost use Rattle.std.specs.Prelude.{IfOk};
+    ghost use Rattle.std.specs.Prelude.{IfOk, None};
 
-    /// The reading of a text from its beginning on, up to the token that is refused. An error says that memory was refused.
-    /// (This project's own call.)
+    /// The reading of a text from its beginning on, up to the token that is rejected. An error says that memory was
+    /// refused. (This project's own call.)
     pub fn refused(
         alloc: Global,
         language: Language,
@@ -121,6 +123,7 @@ impl<'a> ReadUpTo<'a> {
     ) -> Result<ReadUpTo<'a>, AllocError>
         ensures begins { IfOk result (λ read. BeginsAt text.entry.now read.from) }
         ensures top { IfOk result (λ read. read.from ≡ top) }
+        ensures closed { IfOk result (λ read. read.unclosed ≡ None) }
         ensures token { IfOk result (λ read.
             IsItsToken language limits text.entry.now top error.now read.token) }
     {

@@ -20,8 +20,8 @@ use std::alloc::AllocError;
 /// How many phrases at most are taken apart for one token. The grammars need some twenty.
 const MOST: usize = 64;
 
-/// Reads the token in hand: whether what is left goes on with it, and then what is left after it. `left` has the next phrase
-/// last. Gives none where that isn't found within `MOST` phrases.
+/// Reads the lookahead: whether what is left goes on with it, and then what is left after it. `left` has the next
+/// phrase last. Returns none if that isn't found within `MOST` phrases.
 pub fn step(
     left: &mut Vec<Phrase>,
     limits: Limits,
@@ -43,7 +43,7 @@ pub fn step(
 
 // ---- tokens
 
-// Whether this phrase is the token in hand; none where the phrase is no single token.
+// Whether this phrase is the lookahead; none if the phrase is no single token.
 fn is_token(phrase: Phrase, parser: &Parser) -> Option<bool>
     ensures { IfSome result (λ is. (limits : Budgets) → TellsToken limits phrase parser.now.hand.bare is) }
 {
@@ -64,7 +64,7 @@ fn is_token(phrase: Phrase, parser: &Parser) -> Option<bool>
     }
 }
 
-/// Whether this punctuator is in hand.
+/// Whether the lookahead is this punctuator.
 pub fn is_at(parser: &Parser, mark: Mark) -> bool
     ensures { result ≡ punct (mark_text mark) parser.now.hand.bare }
 {
@@ -85,7 +85,7 @@ pub fn is_at(parser: &Parser, mark: Mark) -> bool
     }
 }
 
-// Whether this keyword is in hand.
+// Whether the lookahead is this keyword.
 fn is_at_word(parser: &Parser, word: Keyword) -> bool
     ensures { result ≡ keyword (keyword_text word) parser.now.hand.bare }
 {
@@ -106,14 +106,14 @@ fn is_at_word(parser: &Parser, word: Keyword) -> bool
     }
 }
 
-// Whether the word of a location is in hand.
+// Whether the lookahead is the word of a location.
 fn is_at_location(parser: &Parser) -> bool
     ensures { (limits : Budgets) → TellsToken limits phrases.Location parser.now.hand.bare result }
 {
     parser.is_at_name() && location_of(parser.hand().text).is_some()
 }
 
-/// Whether the keyword of an operation is in hand, which is that of a root too.
+/// Whether the lookahead is the keyword of an operation, which is that of a root too.
 pub fn is_at_operation_type(parser: &Parser) -> bool
     ensures { result ≡ root_first parser.now.hand.bare }
 {
@@ -122,7 +122,7 @@ pub fn is_at_operation_type(parser: &Parser) -> bool
         || parser.is_at_keyword("subscription")
 }
 
-// Whether a string or a block string is in hand. Each stands for something.
+// Whether the lookahead is a string or a block string. Each stands for something.
 fn is_at_text(parser: &Parser) -> bool
     ensures { (limits : Budgets) → TellsToken limits phrases.Text parser.now.hand.bare result }
 {

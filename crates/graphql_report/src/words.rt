@@ -1,4 +1,4 @@
-//! How a report names the refused token, and what is expected in its place.
+//! How a report names the rejected token, and what is expected in its place.
 ghost use Rattle.std.specs.Prelude.{◌≡◌, ◌++◌, [], OnOk, if◌then◌else◌, string_bytes};
 ghost use Rattle.graphql_tokens.specs.tokens.Seen.{seen};
 ghost use Rattle.graphql_report.specs.inner.Called.{texts};
@@ -14,7 +14,7 @@ use std::alloc::AllocError;
 // So many characters of a token are shown.
 const SHOWN_TOKEN: usize = 30;
 
-/// Adds what stands at the refused place.
+/// Adds what stands at the rejected place.
 pub fn push_found(out: &mut String, token: &Token<'_>) -> Result<(), AllocError>
     ensures { OnOk result (string_bytes out.new ≡ string_bytes out.old ++ found (seen token.now).bare) }
 {
@@ -82,7 +82,7 @@ pub fn push_expected(
     Ok(())
 }
 
-// Adds what is expected, and what was found, where it is the one thing of that which may not stand there.
+// Adds what is expected, and what was found, if it is the one thing of that which may not stand there.
 fn push_name(
     out: &mut String,
     token: &Token<'_>,

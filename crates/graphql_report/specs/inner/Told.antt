@@ -1,7 +1,7 @@
 -- What the check of a text tells; and what its error tells: whether the text can be completed, where its end stands at a
 -- place of its own, and whether it has a tree.
 -- Source: this project's choice.
-use Rattle.std.specs.Prelude.{◌≡◌, ◌≢◌, ◌↔◌, ◌⊎◌, ℕ, List, [], ◌++◌, drop, codes, Bool, true, false, IsTrue, Option, None, string_bytes, Result, Ok, Err}
+use Rattle.std.specs.Prelude.{◌≡◌, ◌≢◌, ◌↔◌, ◌⊎◌, ℕ, List, [], ◌++◌, drop, codes, Bool, true, false, IsTrue, Option, Some, None, string_bytes, Result, Ok, Err}
 use Rattle.std.specs.Str.{chars, IsCharBoundary}
 use Rattle.std.specs.declared.alloc.AllocError.{AllocError}
 use Rattle.graphql_tokens.specs.declared.lexer.Token.{Token as LentToken}
@@ -22,7 +22,7 @@ use Rattle.graphql_report.specs.declared.findings.Finding.{Finding}
 use Rattle.graphql_report.specs.declared.fronts.Language.{Language}
 use Rattle.graphql_report.specs.reports.Findings.{first_of, status_of}
 use Rattle.graphql_report.specs.reports.Faults.{IsToldOfFault, expects_value}
-use Rattle.graphql_report.specs.reports.Hints.{IsExpectedWord, IsHint}
+use Rattle.graphql_report.specs.reports.Hints.{IsExpectedWord, IsHintFor, word_of}
 use Rattle.graphql_report.specs.reports.Words.{found}
 use Rattle.graphql_report.specs.declared.fronts.Language.TheVariants.{Requests, Schemas}
 
@@ -52,17 +52,20 @@ abbrev pub ReadsTo : Language → Limits → List ℕ → Result (Unit {0}) Erro
 ReadsTo Requests limits text result token = ReadsText (checked requests) limits text result × ((tokens : List Token) → IsCutInto text tokens → TokenFor (checked requests) limits tokens result token)
 ReadsTo Schemas limits text result token = ReadsText (checked schemas) limits text result × ((tokens : List Token) → IsCutInto text tokens → TokenFor (checked schemas) limits tokens result token)
 
--- a text goes on with a hint, if with anything
-abbrev pub AddsHint : Language → Bare → List (List ℕ) → List ℕ → List ℕ → Type 0
-AddsHint language token names old new = (more : List ℕ) × (new ≡ old ++ more) × IsHint language token names more
+-- a text goes on with a hint, if with anything, which asks for this word, if for any
+abbrev pub AddsHintFor : Option Pos → Language → Bare → List (List ℕ) → List ℕ → List ℕ → Option (List ℕ) → Type 0
+AddsHintFor unclosed language token names old new asked = (more : List ℕ) × (new ≡ old ++ more) × IsHintFor unclosed language token names more asked
+
+abbrev pub AddsHint : Language → Bare → List (List ℕ) → List ℕ → List ℕ → Option (List ℕ) → Type 0
+AddsHint language token names old new asked = AddsHintFor None language token names old new asked
 
 -- a text goes on with this one
 abbrev pub Adds : List ℕ → List ℕ → List ℕ → Type 0
 Adds more old new = new ≡ old ++ more
 
--- it goes on with the word that was meant, which is this one; or with nothing, where there is none
-abbrev pub AddsMeant : List ℕ → List ℕ → List ℕ → Type 0
-AddsMeant word old new = ((word ≡ []) × (new ≡ old)) ⊎ ((word ≢ []) × (new ≡ old ++ (codes " (did you mean \"" ++ word ++ codes "\"?)")))
+-- it goes on with the word that was meant, which is this one; or with nothing, if there is none
+abbrev pub AddsMeant : List ℕ → List ℕ → List ℕ → Option (List ℕ) → Type 0
+AddsMeant word old new asked = ((word ≡ []) × (new ≡ old) × (asked ≡ None)) ⊎ ((word ≢ []) × (new ≡ old ++ (codes " (did you mean \"" ++ word ++ codes "\"?)")) × (asked ≡ Some word))
 
 -- no word, or one that is expected
 abbrev pub IsGuess : List (List ℕ) → List ℕ → Type 0
@@ -76,4 +79,4 @@ IsWrong text names token old new =
 
 -- what a finding says of an error that names no refused token
 abbrev pub TellsBreach : Error → Finding → Type 0
-TellsBreach error finding = (finding.place ≡ first_of (error_places error)) × (finding.end ≡ None) × (finding.status.now ≡ status_of error) × ((more : List ℕ) × (string_bytes finding.message ≡ error_text error ++ more))
+TellsBreach error finding = (finding.place ≡ first_of (error_places error)) × (finding.end ≡ None) × (finding.status.now ≡ status_of error) × (word_of finding.meant ≡ None) × ((more : List ℕ) × (string_bytes finding.message ≡ error_text error ++ more))

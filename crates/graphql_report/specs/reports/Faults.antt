@@ -1,8 +1,9 @@
 -- What a report says of a fault, where a text goes on and no token begins: which words are told of which characters. There are words
 -- for each text; `whole_number` and `nothing` are of texts with which no fault begins.
 -- Source: this project's choice.
-use Rattle.std.specs.Prelude.{◌≡◌, ◌≢◌, ◌≤◌, ℕ, Bool, true, false, not, ◌&&◌, ◌||◌, ◌==◌, if◌then◌else◌, List, [], ◌∷◌, ◌++◌, length, map, codes}
+use Rattle.std.specs.Prelude.{◌≡◌, ◌≢◌, ◌≤◌, ◌-◌, ℕ, Bool, true, false, not, ◌&&◌, ◌||◌, ◌==◌, if◌then◌else◌, List, [], ◌∷◌, ◌++◌, length, map, replicate, codes}
 use Rattle.std.specs.Char.{encode_utf8, is_ascii_digit, is_whitespace}
+use Rattle.std.specs.Fmt.{digits}
 use Rattle.std.specs.Int.{is_in_range}
 use Rattle.std.specs.Str.{byte, encode_utf8_all}
 use Rattle.graphql_tokens.specs.tokens.Numbers.{is_e, is_sign, IsExponent, IsFraction, IsOptional, IsWhole}
@@ -45,11 +46,15 @@ is_other_quote c = c == byte "'" || c == byte "`" || c == 0x2018 || c == 0x2019 
 abbrev pub is_invisible : ℕ → Bool
 is_invisible c = not (shown_for c == c) || is_whitespace c || is_in_range 0x200B 0x200D c
 
--- the words for a character that begins nothing; one that can't be seen is told by a number
+-- the number of a character in hexadecimal digits, of which there are four or more
+abbrev pub number_of : ℕ → List ℕ
+number_of c = replicate (4 - length (digits 16 true c)) (byte "0") ++ digits 16 true c
+
+-- the words for a character that begins nothing; one that can't be seen is told by its number
 pub data IsToldOfCharacter (c : ℕ) (told : List ℕ) : Type 0 where
   quote : is_other_quote c ≡ true → told ≡ encode_utf8 c ++ codes " begins no token (a string stands between double quotes)" → IsToldOfCharacter c told
   slash : c ≡ byte "/" → told ≡ codes "the character / begins no token (a comment begins with #)" → IsToldOfCharacter c told
-  invisible : (number : List ℕ) → is_other_quote c ≡ false → is_invisible c ≡ true → told ≡ codes "the character U+" ++ (number ++ codes " begins no token") → IsToldOfCharacter c told
+  invisible : is_other_quote c ≡ false → is_invisible c ≡ true → told ≡ codes "the character U+" ++ (number_of c ++ codes " begins no token") → IsToldOfCharacter c told
   visible : is_other_quote c ≡ false → c ≢ byte "/" → is_invisible c ≡ false → told ≡ codes "the character " ++ (encode_utf8 c ++ codes " begins no token") → IsToldOfCharacter c told
 
 -- ---- faults

@@ -11,7 +11,8 @@ use Rattle.graphql_grammar.specs.errors.Errors.{error_places, error_text}
 use Rattle.graphql_report.specs.declared.findings.Finding.{Finding}
 use Rattle.graphql_report.specs.declared.fronts.Language.{Language}
 use Rattle.graphql_report.specs.declared.rests.ReadFrom.{ReadFrom}
-use Rattle.graphql_report.specs.reports.Reports.{IsToldAt, IsLimitAt, AreDetails}
+use Rattle.graphql_report.specs.reports.Hints.{word_of}
+use Rattle.graphql_report.specs.reports.Reports.{IsToldAt, IsLimitAt, IsLimitRemark, AreDetails}
 
 abbrev pub first_of : List Pos → Option Pos
 first_of [] = None
@@ -27,11 +28,11 @@ StandsAt is_refused text error stands = stands ≡ first_of (error_places error)
 abbrev pub IsEndOf : List ℕ → Token → Option Pos → Type 0
 IsEndOf text token end = MatchOption end (token.bare.spelling ≡ []) (λ place_there. place_there ≡ place text (token.start + length token.bare.spelling))
 
--- the message says what the report says after the place
-abbrev pub IsMessage : (Token → Type 0) → Language → Limits → List ℕ → ReadFrom → Error → List ℕ → Type 0
-IsMessage is_refused language limits text from (Syntax message start stop) told = (details : List ℕ) × (told ≡ codes "syntax error: " ++ details) × AreDetails is_refused language limits text from details
-IsMessage is_refused language limits text from RecursionLimitExceeded told = (more : List ℕ) × (told ≡ codes "recursion limit exceeded" ++ more)
-IsMessage is_refused language limits text from error told = (more : List ℕ) × (told ≡ error_text error ++ more)
+-- the message says what the report says after the place; a word was meant if that is what the hint in it asks for, and else none
+abbrev pub IsMessage : (Token → Type 0) → Language → Limits → List ℕ → ReadFrom → Option Pos → Error → List ℕ → Option (List ℕ) → Type 0
+IsMessage is_refused language limits text from unclosed (Syntax message start stop) told meant = (details : List ℕ) × (told ≡ codes "syntax error: " ++ details) × AreDetails is_refused language limits text from unclosed details meant
+IsMessage is_refused language limits text from unclosed RecursionLimitExceeded told meant = (meant ≡ None) × ((more : List ℕ) × ((token : Token) → is_refused token → IsLimitRemark limits unclosed more) × (told ≡ codes "recursion limit exceeded" ++ more))
+IsMessage is_refused language limits text from unclosed error told meant = (meant ≡ None) × ((more : List ℕ) × (told ≡ error_text error ++ more))
 
 -- A finding ends where the refused token does, after its characters; and nowhere if that has none, or of another error.
 abbrev pub EndsAt : (Token → Type 0) → List ℕ → Error → Option Pos → Type 0
@@ -51,9 +52,10 @@ status_of (MultipleRoots root schema pos) = codes "MULTIPLE_ROOTS"
 status_of (MissingQueryRoot pos) = codes "MISSING_QUERY_ROOT"
 status_of OutOfMemory = codes "OUT_OF_MEMORY"
 
--- The finding of an error of a text that was read from there on.
-pub record IsFinding (is_refused : Token → Type 0) (language : Language) (limits : Limits) (text : List ℕ) (from : ReadFrom) (error : Error) (finding : Finding) : Type 0 where
+-- The finding of an error of a text that was read from there on, in which a block string that isn't closed is known to begin at a
+-- place, or none is.
+pub record IsFinding (is_refused : Token → Type 0) (language : Language) (limits : Limits) (text : List ℕ) (from : ReadFrom) (unclosed : Option Pos) (error : Error) (finding : Finding) : Type 0 where
   pub stands : StandsAt is_refused text error finding.place
   pub ends : EndsAt is_refused text error finding.end
   pub status : finding.status.now ≡ status_of error
-  pub message : IsMessage is_refused language limits text from error (string_bytes finding.message)
+  pub message : IsMessage is_refused language limits text from unclosed error (string_bytes finding.message) (word_of finding.meant)

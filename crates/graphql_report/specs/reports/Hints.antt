@@ -1,6 +1,7 @@
 -- What a report may say after what is expected: why the token can't stand there, or what was meant.
 -- Source: this project's choice.
-use Rattle.std.specs.Prelude.{◌≡◌, ◌⊎◌, ℕ, Bool, true, false, not, ◌&&◌, ◌||◌, if◌then◌else◌, List, [], ◌∷◌, ◌++◌, map, codes}
+use Rattle.std.specs.Prelude.{◌≡◌, ◌⊎◌, ℕ, Bool, true, false, not, ◌&&◌, ◌||◌, if◌then◌else◌, List, [], ◌∷◌, ◌++◌, map, Option, Some, None, option_map, codes}
+use Rattle.std.specs.Borrow.{Bor}
 use Rattle.std.specs.Fmt.{decimal}
 use Rattle.std.specs.List.{Contains, list_any}
 use Rattle.std.specs.Str.{bytes_eq}
@@ -62,12 +63,29 @@ IsWordOf name word = (name ≡ quoted word) ⊎ ((name ≡ location_name) × ((l
 abbrev pub IsExpectedWord : List (List ℕ) → List ℕ → Type 0
 IsExpectedWord names word = (name : List ℕ) × Contains names name × IsWordOf name word
 
--- Nothing, or a hint: that a block string isn't closed, that the token belongs to the other language, that the three names are no
--- enum values, that an extension has no description, or which of the words that are expected was meant.
-pub data IsHint (language : Language) (token : Bare) (names : List (List ℕ)) (told : List ℕ) : Type 0 where
-  none : told ≡ [] → IsHint language token names told
-  unclosed : (place : Pos) → told ≡ codes " (the block string that begins at " ++ (decimal place.line ++ codes ":" ++ decimal place.column) ++ codes " is probably not closed)" → IsHint language token names told
-  of_other_language : is_of_other_language language token names ≡ true → told ≡ other_language language token → IsHint language token names told
-  no_enum_value : is_no_enum_value language token.spelling names ≡ true → told ≡ codes " (\"true\", \"false\" and \"null\" can't be enum values)" → IsHint language token names told
-  described_extension : token.spelling ≡ codes "extend" → is_among names (quoted (codes "directive")) ≡ true → told ≡ codes " (an extension has no description)" → IsHint language token names told
-  meant : (word : List ℕ) → IsExpectedWord names word → told ≡ codes " (did you mean \"" ++ word ++ codes "\"?)" → IsHint language token names told
+-- that a block string isn't closed, which begins at this place
+abbrev pub unclosed_hint : Pos → List ℕ
+unclosed_hint place = codes " (the block string that begins at " ++ (decimal place.line ++ codes ":" ++ decimal place.column) ++ codes " is probably not closed)"
+
+-- the same if such a place is known
+abbrev pub unclosed_part : Option Pos → List ℕ
+unclosed_part None = []
+unclosed_part (Some place) = unclosed_hint place
+
+-- Nothing, or a hint: that the token belongs to the other language, that the three names are no enum values, that an extension has
+-- no description, or which of the words that are expected was meant; and the word that the hint asks for, in the last case alone.
+pub data IsHint (language : Language) (token : Bare) (names : List (List ℕ)) (told : List ℕ) (asked : Option (List ℕ)) : Type 0 where
+  none : told ≡ [] → asked ≡ None → IsHint language token names told asked
+  of_other_language : is_of_other_language language token names ≡ true → told ≡ other_language language token → asked ≡ None → IsHint language token names told asked
+  no_enum_value : is_no_enum_value language token.spelling names ≡ true → told ≡ codes " (\"true\", \"false\" and \"null\" can't be enum values)" → asked ≡ None → IsHint language token names told asked
+  described_extension : token.spelling ≡ codes "extend" → is_among names (quoted (codes "directive")) ≡ true → told ≡ codes " (an extension has no description)" → asked ≡ None → IsHint language token names told asked
+  meant : (word : List ℕ) → IsExpectedWord names word → told ≡ codes " (did you mean \"" ++ word ++ codes "\"?)" → asked ≡ Some word → IsHint language token names told asked
+
+-- the hint, where a block string that isn't closed is known to begin at a place, or no such place is known
+abbrev pub IsHintFor : Option Pos → Language → Bare → List (List ℕ) → List ℕ → Option (List ℕ) → Type 0
+IsHintFor (Some place) language token names told asked = (told ≡ unclosed_hint place) × (asked ≡ None)
+IsHintFor None language token names told asked = IsHint language token names told asked
+
+-- the word as the code has it
+abbrev pub word_of : Option (Bor (List ℕ)) → Option (List ℕ)
+word_of given = option_map (λ word. word.now) given

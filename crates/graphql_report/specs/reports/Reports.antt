@@ -1,6 +1,6 @@
 -- How the report of an error begins, and which places it tells.
 -- Source: this project's choice.
-use Rattle.std.specs.Prelude.{◌≡◌, ◌⊎◌, ℕ, ◌-◌, List, [], ◌∷◌, ◌++◌, take, drop, codes}
+use Rattle.std.specs.Prelude.{◌≡◌, ◌⊎◌, ℕ, ◌-◌, List, [], ◌∷◌, ◌++◌, take, drop, Option, None, codes}
 use Rattle.std.specs.Fmt.{decimal}
 use Rattle.std.specs.Str.{chars}
 use Rattle.graphql_tokens.specs.declared.lexer.TokenKind.TheVariants.{Fault}
@@ -20,7 +20,8 @@ use Rattle.graphql_report.specs.declared.style.Part.TheVariants.{Place, Error as
 use Rattle.graphql_report.specs.reports.Escapes.{IsBadEscapeOf}
 use Rattle.graphql_report.specs.reports.Expected.{AreExpected}
 use Rattle.graphql_report.specs.reports.Faults.{IsToldOfFault, expects_value}
-use Rattle.graphql_report.specs.reports.Hints.{IsHint}
+use Rattle.graphql_report.specs.reports.Hints.{IsHintFor, unclosed_part}
+use Rattle.graphql_report.specs.reports.Offsets.{second_remark}
 use Rattle.graphql_report.specs.reports.Words.{found, expected}
 
 -- ---- how a part stands out
@@ -51,14 +52,12 @@ place_text file place = named file (codes ":") ++ decimal place.line ++ codes ":
 abbrev pub Tells : Style → List ℕ → Pos → List ℕ → List ℕ → Type 0
 Tells style file place message report = (rest : List ℕ) × (report ≡ styled style Place (place_text file place) ++ codes " " ++ message ++ rest)
 
--- The report begins with the first place and the message, and tells the second place further on; where there is no place,
--- it is one line of the file, if that has a name, and the message.
-abbrev pub TellsPlaces : Style → List ℕ → List ℕ → List Pos → List ℕ → Type 0
-TellsPlaces style file message [] report = report ≡ named file (codes ": ") ++ message ++ 10 ∷ []
-TellsPlaces style file message (place ∷ []) report = Tells style file place message report
-TellsPlaces style file message (place ∷ second ∷ more) report =
-    (middle rest : List ℕ)
-    × (report ≡ (styled style Place (place_text file place) ++ codes " " ++ message ++ middle) ++ styled style Place (place_text file second) ++ rest)
+-- The report begins with the first place and the message, and tells the second place further on, with the remark; where there is
+-- no place, it is one line of the file, if that has a name, and the message.
+abbrev pub TellsPlaces : Style → List ℕ → List ℕ → List ℕ → List Pos → List ℕ → Type 0
+TellsPlaces style file message remark [] report = report ≡ named file (codes ": ") ++ message ++ 10 ∷ []
+TellsPlaces style file message remark (place ∷ []) report = Tells style file place message report
+TellsPlaces style file message remark (place ∷ second ∷ more) report = (first other : List ℕ) × Tells style file place message first × Tells style file second (remark ++ 10 ∷ []) other × (report ≡ first ++ other)
 
 -- the place of this text is that of the end of a part with which it begins
 abbrev pub IsPlaceIn : List ℕ → Pos → Type 0
@@ -78,8 +77,8 @@ IsToldAt is_refused text start told =
 -- ---- what is told of a refused token
 
 -- What was found, or what is wrong where no token begins; then just what is expected after all that stands before it; and then
--- a hint, if any.
-pub record TellsToken (language : Language) (limits : Limits) (text : List ℕ) (from : ReadFrom) (token : Token) (details : List ℕ) : Type 0 where
+-- a hint, if any, which may ask for a word.
+pub record TellsToken (language : Language) (limits : Limits) (text : List ℕ) (from : ReadFrom) (unclosed : Option Pos) (token : Token) (details : List ℕ) (asked : Option (List ℕ)) : Type 0 where
   pub names : List (List ℕ)
   pub are_expected : AreExpected language limits (take (token.start - from.offset) (drop from.offset text)) names
   pub wrong : List ℕ
@@ -87,11 +86,22 @@ pub record TellsToken (language : Language) (limits : Limits) (text : List ℕ) 
   pub is : details ≡ wrong ++ expected language token.bare names ++ more
   pub found : (token.bare.kind ≡ Fault → ⊥) → wrong ≡ codes "found " ++ found token.bare
   pub faults : token.bare.kind ≡ Fault → IsToldOfFault (expects_value names) (chars (drop token.start text)) wrong
-  pub hints : IsHint language token.bare names more
+  pub hints : IsHintFor unclosed language token.bare names more asked
 
 -- these details are of the token that is the refused one
-abbrev pub AreDetails : (Token → Type 0) → Language → Limits → List ℕ → ReadFrom → List ℕ → Type 0
-AreDetails is_refused language limits text from details = (token : Token) → is_refused token → TellsToken language limits text from token details
+abbrev pub AreDetails : (Token → Type 0) → Language → Limits → List ℕ → ReadFrom → Option Pos → List ℕ → Option (List ℕ) → Type 0
+AreDetails is_refused language limits text from unclosed details asked = (token : Token) → is_refused token → TellsToken language limits text from unclosed token details asked
+
+-- what may nest, and how deep it may
+abbrev pub IsLimitNamed : Limits → List ℕ → ℕ → Type 0
+IsLimitNamed limits what most = ((what ≡ codes "lists and objects") × (most ≡ limits.values)) ⊎ ((what ≡ codes "list types") × (most ≡ limits.types)) ⊎ ((what ≡ codes "selection sets") × (most ≡ limits.selections))
+
+abbrev pub limit_words : List ℕ → ℕ → List ℕ
+limit_words what most = codes ": " ++ (what ++ (codes " may nest " ++ (decimal most ++ codes " deep")))
+
+-- what is said of a limit: which one it is, and that a block string isn't closed, if that is known
+abbrev pub IsLimitRemark : Limits → Option Pos → List ℕ → Type 0
+IsLimitRemark limits unclosed told = (what : List ℕ) × (most : ℕ) × IsLimitNamed limits what most × (told ≡ limit_words what most ++ unclosed_part unclosed)
 
 -- a limit is told at a place in the text, that of the token that is the refused one
 abbrev pub IsLimitAt : (Token → Type 0) → List ℕ → Pos → Type 0
@@ -99,22 +109,27 @@ IsLimitAt is_refused text place = IsPlaceIn text place × ((token : Token) → i
 
 -- ---- reports
 
-abbrev pub TellsSyntax : Style → List ℕ → (Token → Type 0) → Language → Limits → List ℕ → ReadFrom → Pos → List ℕ → Type 0
-TellsSyntax style file is_refused language limits text from start report =
-    (place : Pos) × (details : List ℕ)
+abbrev pub TellsSyntax : Style → List ℕ → (Token → Type 0) → Language → Limits → List ℕ → ReadFrom → Option Pos → Pos → List ℕ → Type 0
+TellsSyntax style file is_refused language limits text from unclosed start report =
+    (place : Pos) × (details : List ℕ) × (asked : Option (List ℕ))
     × IsToldAt is_refused text start place
-    × AreDetails is_refused language limits text from details
+    × AreDetails is_refused language limits text from unclosed details asked
     × Tells style file place (((codes "syntax " ++ styled style Word (codes "error") ++ codes ": ") ++ details) ++ 10 ∷ []) report
 
-abbrev pub TellsLimit : Style → List ℕ → (Token → Type 0) → List ℕ → List ℕ → Type 0
-TellsLimit style file is_refused text report =
-    (place : Pos)
+abbrev pub TellsLimit : Style → List ℕ → (Token → Type 0) → Limits → List ℕ → Option Pos → List ℕ → Type 0
+TellsLimit style file is_refused limits text unclosed report =
+    (place : Pos) × (more : List ℕ)
     × IsLimitAt is_refused text place
-    × Tells style file place (codes "recursion limit exceeded") report
+    × ((token : Token) → is_refused token → IsLimitRemark limits unclosed more)
+    × Tells style file place ((codes "recursion limit exceeded" ++ more) ++ 10 ∷ []) report
 
--- The report of an error of a text that was read from there on: of a token that is refused, where it is and what it is; of
--- another error, its own text and its places.
+-- The report of an error of a text that was read from there on, in which a block string that isn't closed is known to begin at a
+-- place, or none is: of a token that is refused, where it is and what it is; of another error, its own text and its places.
+abbrev pub IsReportWith : Style → List ℕ → (Token → Type 0) → Language → Limits → List ℕ → ReadFrom → Option Pos → Error → List ℕ → Type 0
+IsReportWith style file is_refused language limits text from unclosed (Syntax message start stop) report = TellsSyntax style file is_refused language limits text from unclosed start report
+IsReportWith style file is_refused language limits text from unclosed RecursionLimitExceeded report = TellsLimit style file is_refused limits text unclosed report
+IsReportWith style file is_refused language limits text from unclosed error report = TellsPlaces style file (error_text error) (second_remark error) (error_places error) report
+
+-- the same where no such string is known
 abbrev pub IsReport : Style → List ℕ → (Token → Type 0) → Language → Limits → List ℕ → ReadFrom → Error → List ℕ → Type 0
-IsReport style file is_refused language limits text from (Syntax message start stop) report = TellsSyntax style file is_refused language limits text from start report
-IsReport style file is_refused language limits text from RecursionLimitExceeded report = TellsLimit style file is_refused text report
-IsReport style file is_refused language limits text from error report = TellsPlaces style file (error_text error) (error_places error) report
+IsReport style file is_refused language limits text from error report = IsReportWith style file is_refused language limits text from None error report

@@ -1,9 +1,9 @@
-use Rattle.std.proofs.Common.{◌≡◌, ℕ, List, ◌++◌, sym, ◌∙◌}
+use Rattle.std.proofs.Common.{◌++◌, sym, ◌∙◌}
 use Rattle.std.specs.Prelude.{codes}
 use Rattle.std.specs.Char.{encode_utf8}
 use Rattle.std.specs.String.{string_bytes}
-use Rattle.graphql_report.specs.reports.Faults.{IsToldOfCharacter, invisible, quote}
-use Rattle.graphql_report.proofs.NumberParts.{told-ok, also-ok}
+use Rattle.graphql_report.specs.reports.Faults.{IsToldOfCharacter, invisible, number_of, quote}
+use Rattle.graphql_report.proofs.NumberParts.{told-ok}
 use Rattle.graphql_report.proofs.faults.character_fault.Goals as goal
 
 pub returns-then-is_other_quote : goal.returns-then-is_other_quote
@@ -11,5 +11,5 @@ returns-then-is_other_quote c = told-ok string_bytes c.format.result (IsToldOfCh
     (λ told e. quote (sym c.is_other_quote.ensures ∙ c.if-is_other_quote.true) e)
 
 pub returns-then-is_invisible : goal.returns-then-is_invisible
-returns-then-is_invisible c = also-ok string_bytes c.invisible_fault.result (λ told. (number : List ℕ) × (told ≡ codes "the character U+" ++ (number ++ codes " begins no token"))) (IsToldOfCharacter c.args.c) c.invisible_fault.ensures
-    (λ told is. invisible is.0 (sym c.is_other_quote.ensures ∙ c.if-is_other_quote.false) (sym c.is_invisible.ensures ∙ c.if-is_invisible.true) is.1)
+returns-then-is_invisible c = told-ok string_bytes c.invisible_fault.result (IsToldOfCharacter c.args.c) (codes "the character U+" ++ (number_of c.args.c ++ codes " begins no token")) c.invisible_fault.ensures
+    (λ told e. invisible (sym c.is_other_quote.ensures ∙ c.if-is_other_quote.false) (sym c.is_invisible.ensures ∙ c.if-is_invisible.true) e)

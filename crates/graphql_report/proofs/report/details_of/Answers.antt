@@ -6,6 +6,7 @@ use Rattle.graphql_tokens.specs.tokens.Token.{Token}
 use Rattle.graphql_tokens.specs.tokens.Seen.{seen}
 use Rattle.graphql_report.specs.inner.Called.{texts}
 use Rattle.graphql_report.specs.reports.Expected.{AreExpected}
+use Rattle.graphql_report.specs.reports.Hints.{word_of}
 use Rattle.graphql_report.specs.reports.Refused.{IsKnown}
 use Rattle.graphql_report.specs.reports.Reports.{TellsToken}
 use Rattle.graphql_report.specs.reports.Words.{expected}
@@ -20,7 +21,7 @@ returns-clause-told c token known =
     let lent = c.in-Some.token in
     let front : c.read_before-front.result.now ≡ take (lent.start - read.from.offset) (drop read.from.offset text) =
     c.read_before-front.ensures c.requires.0 (read-front c.args.language c.args.limits text read token lent c.utf8.text c.requires c.in-Some.is known) in
-    subst (λ (t : Token). TellsToken c.args.language c.args.limits text read.from t (string_bytes c.push_more.new.out)) (known-lent c.args.language c.args.limits text read token lent c.in-Some.is known) (record {
+    subst (λ (t : Token). TellsToken c.args.language c.args.limits text read.from read.unclosed t (string_bytes c.push_more.new.out) (word_of c.in_ok-meant.meant)) (known-lent c.args.language c.args.limits text read token lent c.in-Some.is known) (record {
       names = texts c.as_slice-expected.result.now;
       are_expected = subst (λ (l : List ℕ). AreExpected c.args.language c.args.limits l (texts c.as_slice-expected.result.now)) front (subst (λ (names : List (Bor (List ℕ))). AreExpected c.args.language c.args.limits c.read_before-front.result.now (texts names)) (sym c.as_slice-expected.ensures.value) c.in_ok-expected.ensures.samples);
       wrong = c.in_ok-offset.ensures.told.0;
