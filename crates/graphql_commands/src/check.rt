@@ -12,7 +12,7 @@ use crate::texts::{Texts, Unread};
 use graphql_parser::Memory;
 use graphql_parser::lexer::Tokens;
 use graphql_texts::check::error_of;
-use graphql_texts::errors::{Names, Source};
+use graphql_texts::errors::Source;
 use graphql_texts::language::read_as;
 use std::alloc::{AllocError, Global};
 use std::io::Write;
@@ -111,19 +111,11 @@ pub fn source_of<'a>(
         (source.text.now ≡ text.now) × (source.limits ≡ call.now.limits)) }
 {
     Ok(Source {
-        names: names_of(name),
+        name: reported_name(name),
         language: read_as(alloc, call.language, name, text)?,
         limits: call.limits,
         text,
     })
-}
-
-/// The names of a file that a call names so. How a terminal shows the name is found only for a report.
-pub fn names_of(name: &str) -> Names<'_> {
-    Names {
-        shown: "",
-        name: reported_name(name),
-    }
 }
 
 /// Whether a text is empty, or has nothing but blanks, commas, line ends and comments.
@@ -152,7 +144,7 @@ pub fn check_source(call: &Call<'_>, source: &Source<'_>, teller: &mut Teller) -
             Found::Rejected
         }
         Err(_) if call.memory.is_some() => {
-            teller.tell_unread(source.names.name, Unread::OverBudget);
+            teller.tell_unread(source.name, Unread::OverBudget);
             Found::Unread
         }
         Err(_) => teller.run_out(),

@@ -1,6 +1,5 @@
 //! The program's work, over any source of texts and any writers.
-ghost use Rattle.std.specs.Prelude.{◌≡◌, ◌≤◌, ◌<◌, ◌⊎◌, IfOk};
-ghost use Rattle.std.specs.Str.{IsUtf8};
+ghost use Rattle.std.specs.Prelude.{◌≡◌, ◌≤◌, ◌<◌, ◌⊎◌};
 ghost use Rattle.graphql_commands.specs.declared.texts.Unread.TheVariants.{Forbidden, BadName};
 
 use crate::check::{check_files, is_blank, source_of};
@@ -10,10 +9,8 @@ use crate::output::put;
 use crate::rewriting::{format_files, found_by, written_anew};
 use crate::telling::Teller;
 use crate::texts::{Listing, Passed, Texts, Unread};
-use graphql_json::{Places, request_json, schema_json};
-use graphql_parser::{Error, parse_query_limited, parse_schema_limited};
-use graphql_report::{Language, Style};
-use graphql_texts::errors::Source;
+use graphql_report::Style;
+use graphql_texts::rewriting::tree_line;
 use std::alloc::{AllocError, Global};
 use std::io::{ErrorKind, Write};
 
@@ -220,35 +217,6 @@ fn print_tree<'a>(call: &Call<'_>, name: &'a str, text: &'a str, teller: &mut Te
             0
         }
         Err(error) => found_by(&error, &source, teller).status(),
-    }
-}
-
-// The tree of a text as JSON with a line feed after it, or the text's error.
-fn tree_line(alloc: Global, source: &Source<'_>, has_places: bool) -> Result<String, Error> {
-    let json = tree_json(alloc, source, has_places)?;
-    let mut line = String::from_utf8(json).unwrap();
-    line.push('\n')?;
-    Ok(line)
-}
-
-fn tree_json(alloc: Global, source: &Source<'_>, has_places: bool) -> Result<Vec<u8>, Error>
-    ensures { IfOk result (λ json. IsUtf8 json.items) }
-{
-    let Source { limits, text, .. } = *source;
-    let places = if has_places {
-        Places::Written
-    } else {
-        Places::LeftOut
-    };
-    match source.language {
-        Language::Requests => {
-            let document = parse_query_limited(alloc, text, limits)?;
-            Ok(request_json(alloc, &document, places)?)
-        }
-        Language::Schemas => {
-            let document = parse_schema_limited(alloc, text, limits)?;
-            Ok(schema_json(alloc, &document, places)?)
-        }
     }
 }
 

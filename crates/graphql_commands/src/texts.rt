@@ -3,6 +3,7 @@ ghost use Rattle.std.specs.Prelude.{◌≡◌, ◌⊎◌, false, ℕ, List, Resu
 ghost use Rattle.std.specs.declared.alloc.Global.{Global};
 ghost use Rattle.std.specs.declared.string.String.{String as Text};
 ghost use Rattle.graphql_commands.specs.declared.texts.Unread.{Unread};
+ghost use Rattle.graphql_commands.specs.declared.texts.Unwritten.{Unwritten};
 ghost use Rattle.graphql_commands.specs.declared.texts.Unread.TheVariants.{Forbidden, BadName};
 
 use crate::replacing::replace;
@@ -148,6 +149,8 @@ pub struct Passed {
 pub trait Texts {
     // What may be read under a name at a state of these, and the state after that.
     ghost gives: { Self → List ℕ → Result (Text Global) Unread → Self → Type 0 };
+    // What may come of putting a text under a name at a state of these, and the state after that.
+    ghost puts: { Self → List ℕ → List ℕ → Result (Unit {0}) Unwritten → Self → Type 0 };
 
     /// The text under this name; `-` is standard input.
     fn text(&mut self, alloc: Global, name: &str) -> Result<String, Unread>
@@ -164,7 +167,8 @@ pub trait Texts {
 
     /// Puts this text in the place of the one under this name, which is no standard input. If that fails, the old one is there,
     /// unless the error says where else it is.
-    fn replace(&mut self, alloc: Global, name: &str, text: &str) -> Result<(), Unwritten>;
+    fn replace(&mut self, alloc: Global, name: &str, text: &str) -> Result<(), Unwritten>
+        ensures { Self.puts self.old name.now text.now result self.new };
 }
 
 /// The text that these bytes are.
@@ -202,6 +206,7 @@ pub struct Disk<'a> {
 impl Texts for Disk<'_> {
     // Nothing is known of what a machine's files hold.
     ghost gives = { λ _ _ _ _. Unit {0} };
+    ghost puts = { λ _ _ _ _ _. Unit {0} };
 
     fn text(&mut self, alloc: Global, name: &str) -> Result<String, Unread> {
         let read = if name == "-" {

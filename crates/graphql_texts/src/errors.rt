@@ -22,17 +22,10 @@ use std::alloc::{AllocError, Global};
 /// So many errors of a text are told at most.
 pub const MOST_FINDINGS: usize = 100;
 
-/// The names of a file: the one that people are told, and the one that programs are told.
-#[derive(Clone, Copy)]
-pub struct Names<'a> {
-    pub shown: &'a str,
-    pub name: &'a str,
-}
-
-/// A text that is read: of which file, as what, and how deep it may nest.
+/// A text that is read: of a file of which name, as what, and how deep it may nest.
 #[derive(Clone, Copy)]
 pub struct Source<'a> {
-    pub names: Names<'a>,
+    pub name: &'a str,
     pub language: Language,
     pub limits: Limits,
     pub text: &'a str,

@@ -15,5 +15,5 @@ pub mod language;
 pub mod recovery;
 pub mod rewriting;
 
-pub use diagnoses::{Diagnosis, Fix, Other, Span, diagnoses_of};
+pub use diagnoses::{Diagnosis, Fix, Other, Span, diagnoses_from, diagnoses_of};
 pub use graphql_report::Language;

@@ -73,11 +73,11 @@ fn look_from(language: Language, text: &str, from: usize) -> Search {
     Search::Ended
 }
 
-/// Whether this offset of the second part of a text is where a line begins.
+/// Whether this offset of the second part of a text is where a line begins, as it does after a carriage return alone.
 pub fn stands_first(front: &str, rest: &str, offset: usize) -> bool {
     match rest.split_at_checked(offset) {
-        Some(("", _)) => front.is_empty() || front.ends_with('\n'),
-        Some((before, _)) => before.ends_with('\n'),
+        Some(("", _)) => front.is_empty() || front.ends_with(['\n', '\r']),
+        Some((before, _)) => before.ends_with(['\n', '\r']),
         None => false,
     }
 }
@@ -194,6 +194,6 @@ const QUOTES: &str = "\"\"\"";
 // Where the line after this offset begins, if there is one.
 fn next_line(text: &str, offset: usize) -> Option<usize> {
     let (_, rest) = text.split_at_checked(offset)?;
-    let (_, after) = rest.split_once('\n')?;
+    let (_, after) = rest.split_once(['\n', '\r'])?;
     Some(text.len().saturating_sub(after.len()))
 }

@@ -2,7 +2,7 @@ use Rattle.std.proofs.Common.{◌<◌, List, [], ◌∷◌, ◌++◌, length, Al
 use Rattle.std.proofs.lemmas.List.Elements.{All-push}
 use Rattle.graphql_texts.specs.declared.diagnoses.Diagnosis.{Diagnosis}
 use Rattle.graphql_texts.specs.checked.Diagnosed.{IsDiagnosisOf}
-use Rattle.graphql_texts.proofs.diagnoses.diagnoses_of.Goals as goal
+use Rattle.graphql_texts.proofs.diagnoses.diagnoses_from.Goals as goal
 
 more-is-some : (found : List Diagnosis) (next : Diagnosis) → 0 < length (found ++ next ∷ [])
 more-is-some [] next = omega arith

@@ -1,7 +1,7 @@
 use Rattle.std.proofs.Common.{◌<◌, length, All}
 use Rattle.graphql_report.specs.reports.Rests.{BeginsAt}
 use Rattle.graphql_texts.specs.checked.Diagnosed.{IsDiagnosisOf}
-use Rattle.graphql_texts.proofs.diagnoses.diagnoses_of.Given as goal
+use Rattle.graphql_texts.proofs.diagnoses.diagnoses_from.Given as goal
 
 abbrev pub invariant-loop : goal.invariant-loop
 invariant-loop l = record {
