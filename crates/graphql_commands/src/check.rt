@@ -39,9 +39,10 @@ impl Found {
     }
 }
 
-/// Reads each of these files and checks it, one after another, and reports what is wrong with it. Reports go to `err` before the
-/// next file is read, and what is for standard output is kept. No text is kept while the next one is read. The status is 0 only
-/// if each file has a text that is good, or a blank one if requests may hold fragments alone; it is 2 if memory ran out.
+/// Reads each of these files and checks it, one after another, and reports what is wrong with it. Reports go to `err`
+/// before the next file is read, and what is for standard output is kept. No text is kept while the next one is read.
+/// The status is 0 only if each file has a text that is good, or a blank one if requests may hold fragments alone; it
+/// is 2 if memory ran out.
 pub fn check_files<T: Texts, E: Write>(
     call: &Call<'_>,
     files: &[String],
@@ -129,8 +130,8 @@ pub fn is_blank(text: &str) -> bool
     }
 }
 
-/// What is found of a text, after what is wrong with it is reported. If memory is refused, a budget stops the check of this
-/// text alone.
+/// What is found of a text, after what is wrong with it is reported. If memory is refused, a budget stops the check of
+/// this text alone.
 pub fn check_source(call: &Call<'_>, source: &Source<'_>, teller: &mut Teller) -> Found
     ensures { (result ≡ Good) →
         IsGoodText call.now.takes_fragments source.now.language source.now.limits

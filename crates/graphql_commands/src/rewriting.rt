@@ -32,9 +32,9 @@ pub fn found_by(error: &Error, source: &Source<'_>, teller: &mut Teller) -> Foun
     Found::Rejected
 }
 
-/// The text that the command writes in the place of this one, of a file of this name: laid out anew, its tree as text, or
-/// minified with a line feed after it. What was found of the text if it isn't good, which is reported; to print it, it needs an
-/// operation too, since a parse returns no tree of fragments alone.
+/// The text that the command writes in the place of this one, of a file of this name: laid out anew, its tree as text,
+/// or minified with a line feed after it. What was found of the text if it isn't good, which is reported; to print it,
+/// it needs an operation too, since a parse returns no tree of fragments alone.
 pub fn written_anew<'a>(
     call: &Call<'_>,
     name: &'a str,
@@ -96,12 +96,12 @@ fn minified_line(alloc: Global, source: &Source<'_>) -> Result<String, AllocErro
     Ok(minified)
 }
 
-/// Reads each of these files, and writes it anew if that changes it, one after another; if files are only checked, lists
-/// those that would change. A blank file stays as it is. What is wrong with a file goes to `err` before the next one is read, and
-/// the file stays as it is. The status is 2 if memory ran out.
+/// Reads each of these files, and writes it anew if that changes it, one after another; if files are only checked,
+/// lists those that would change. A blank file stays as it is. What is wrong with a file goes to `err` before the next
+/// one is read, and the file stays as it is. The status is 2 if memory ran out.
 ///
-/// What is put in a file's place is what was read of it laid out, as long as files are read; and with status 0 each file is laid
-/// out then, or blank.
+/// What is put in a file's place is what was read of it laid out, as long as files are read; and with status 0 each
+/// file is laid out then, or blank.
 pub fn format_files<T: Texts, E: Write>(
     call: &Call<'_>,
     files: &[String],

@@ -62,8 +62,8 @@ impl Teller {
         }
     }
 
-    /// Writes the reports so far to standard error; a failure there changes no status. The error says that memory ran out before:
-    /// then only whole lines are written.
+    /// Writes the reports so far to standard error; a failure there changes no status. The error says that memory ran
+    /// out before: then only whole lines are written.
     pub fn put_reports<E: Write>(&mut self, err: &mut E) -> Result<(), AllocError> {
         put(err, whole_lines(self.reports.as_str()).as_bytes());
         self.reports.clear();
@@ -187,8 +187,8 @@ impl Teller {
         self.unchanged = self.unchanged.saturating_add(1);
     }
 
-    /// Adds how many files there were, as `3 files: 1 good, 1 rejected (2 findings), 1 not read`. This word says what was done with
-    /// those with which all is well.
+    /// Adds how many files there were, as `3 files: 1 good, 1 rejected (2 findings), 1 not read`. This word says what
+    /// was done with those with which all is well.
     pub fn count_files(&mut self, done: &str) {
         let count = self
             .done
@@ -297,8 +297,8 @@ impl Teller {
         }
     }
 
-    // Adds the lines of what is wrong with a text, of which this is wrong first: what an editor shows of it. An editor shows nothing
-    // if a text needs an operation and has only fragments.
+    // Adds the lines of what is wrong with a text, of which this is wrong first: what an editor shows of it. An editor
+    // shows nothing if a text needs an operation and has only fragments.
     fn list_mistakes<'a>(&mut self, source: &Source<'a>, refused: Refused<'a>) {
         if let Error::MissingOperation = refused.error {
             return self.list_error(source, &refused.error);
@@ -376,7 +376,8 @@ impl Teller {
         });
     }
 
-    /// Reports to people why a file isn't written. If its old text is elsewhere, that is reported even if all else is quiet.
+    /// Reports to people why a file isn't written. If its old text is elsewhere, that is reported even if all else is
+    /// quiet.
     pub fn tell_unwritten(&mut self, name: &str, why: &Unwritten) {
         let Some(words) = why.words() else {
             self.is_out_of_memory = true;

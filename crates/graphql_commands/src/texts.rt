@@ -44,7 +44,7 @@ pub enum Unread {
 }
 
 impl Unread {
-    /// What is said of it after the file's name; None where memory was refused, which stops the program.
+    /// What is said of it after the file's name; None if memory was denied, which stops the program.
     pub fn words(self) -> Option<&'static str> {
         match self {
             Unread::Missing => Some("cannot be read: no such file"),
@@ -65,7 +65,7 @@ impl Unread {
         }
     }
 
-    /// Whether it is only skipped where a folder is searched, so that it doesn't count as a file that isn't read.
+    /// Whether it is only skipped if a folder is searched, so that it doesn't count as a file that isn't read.
     pub fn is_skipped(self) -> bool
         ensures { (self ≡ Forbidden) ⊎ (self ≡ BadName) → result ≡ false }
     {
@@ -113,7 +113,8 @@ pub enum Unwritten {
 }
 
 impl Unwritten {
-    /// What is said of it after the file's name, and before that of a copy; None where memory was refused, which stops the program.
+    /// What is said of it after the file's name, and before that of a copy; None if memory was denied, which stops the
+    /// program.
     pub fn words(&self) -> Option<&'static str> {
         match self {
             Unwritten::Missing => Some("cannot be written: no such file"),
@@ -137,7 +138,7 @@ pub struct Listing {
     pub passed: Vec<Passed>,
 }
 
-/// What is passed over where a folder is searched.
+/// What is passed over when a folder is searched.
 #[derive(Drop)]
 pub struct Passed {
     /// Its name, with U+FFFD for what of it isn't UTF-8.
@@ -156,8 +157,8 @@ pub trait Texts {
     fn text(&mut self, alloc: Global, name: &str) -> Result<String, Unread>
         ensures { Self.gives self.old name.now result self.new };
 
-    /// What is found below the folder of this name, of all that is there or only of what isn't ignored; None where it isn't a
-    /// folder.
+    /// What is found below the folder of this name, of all that is there or only of what isn't ignored; None if it
+    /// isn't a folder.
     fn files_below(
         &mut self,
         alloc: Global,
@@ -165,8 +166,8 @@ pub trait Texts {
         takes_all: bool,
     ) -> Result<Option<Listing>, Unread>;
 
-    /// Puts this text in the place of the one under this name, which is no standard input. If that fails, the old one is there,
-    /// unless the error says where else it is.
+    /// Puts this text in the place of the one under this name, which is no standard input. If that fails, the old one
+    /// is there, unless the error says where else it is.
     fn replace(&mut self, alloc: Global, name: &str, text: &str) -> Result<(), Unwritten>
         ensures { Self.puts self.old name.now text.now result self.new };
 }
@@ -179,7 +180,7 @@ pub fn text_of(bytes: Vec<u8>) -> Result<String, Unread> {
     }
 }
 
-/// Why there is no text where a system's call failed in this way.
+/// Why there is no text if a system's call failed in this way.
 pub fn reason(kind: ErrorKind) -> Unread {
     match kind {
         ErrorKind::NotFound => Unread::Missing,

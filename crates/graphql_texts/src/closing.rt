@@ -1,9 +1,9 @@
 //! Which brackets of a definition aren't closed, and what closes them.
 //!
-//! A text is refused at a bracket that is missing, or later: what comes next may be taken for a part of the definition, as the
-//! keyword of the next one for the name of a field. So brackets are missing before the first line within a definition that begins
-//! as another one does, if the definition is whole with them and the text is then read past the refused token; and else before
-//! that token.
+//! A text is rejected where a bracket is missing, or later: what comes next may be taken for a part of the definition,
+//! as the keyword of the next one for the name of a field. So brackets are missing before the first line within a
+//! definition that begins as another one does, if the definition is whole with them and the text is then read past the
+//! rejected token; and else before that token.
 use crate::check::error_of;
 use crate::errors::Source;
 use crate::recovery::{begins_definition, end_of, stands_first};
@@ -47,8 +47,9 @@ impl Missing {
     }
 }
 
-/// The brackets that aren't closed, of a text that was read from this offset on and is refused at this token: all that are open,
-/// if the definition is whole once they are closed, or the inmost one, if the refused token can come next then.
+/// The brackets that aren't closed, of a text that was read from this byte offset on and is rejected at this token: all
+/// that are open, if the definition is whole once they are closed, or the inmost one, if the rejected token can come
+/// next then. An error says that memory was denied.
 pub fn missing_of(
     alloc: Global,
     source: &Source<'_>,
@@ -138,7 +139,7 @@ impl Gap {
 struct Gaps {
     // Before a line that begins as a definition does.
     suspected: Option<Gap>,
-    // Before the refused token.
+    // Before the rejected token.
     refused: Gap,
 }
 
@@ -153,7 +154,7 @@ struct Walk<'a> {
     suspected: Option<Gap>,
 }
 
-// The places before the refused token of a text that was read from this offset on.
+// The places before the rejected token of a text that was read from this offset on.
 fn gaps_of(
     alloc: Global,
     source: &Source<'_>,
@@ -237,8 +238,8 @@ impl Walk<'_> {
     }
 }
 
-// Whether a part of a definition may begin with these tokens though a definition does: with a brace, or with a keyword after which
-// the line ends. The first is where this rest of the text begins.
+// Whether a part of a definition may begin with these tokens though a definition does: with a brace, or with a keyword
+// after which the line ends. The first is where this rest of the text begins.
 fn is_within(rest: &str, first: &Token<'_>, second: &Token<'_>) -> bool {
     let length = second.start.saturating_sub(first.start);
     first.text == "{" || (first.kind.is_name() && !is_one_line(rest, 0, length))
@@ -260,9 +261,9 @@ fn is_definition(source: &Source<'_>, token: &Token<'_>) -> bool {
 
 // ---- what closes them
 
-// Whether the brackets that are open before a line that begins as a definition does are missing there: that line may begin a
-// document, the definition before it is whole with them, and what begins with it is read past the refused token, before which the
-// other place is; or up to the end of the text, with the brackets that are missing there too.
+// Whether the brackets that are open before a line that begins as a definition does are missing there: that line may
+// begin a document, the definition before it is whole with them, and what begins with it is read past the rejected
+// token, before which the other place is; or up to the end of the text, with the brackets that are missing there too.
 fn is_missing_before(
     alloc: Global,
     source: &Source<'_>,
@@ -294,8 +295,8 @@ fn begins_another(alloc: Global, source: &Source<'_>, gap: &Gap) -> Result<bool,
     }
 }
 
-// Whether the definition before this place is whole once all brackets are closed that are open there: a document, or one but for a
-// rule.
+// Whether the definition before this place is whole once all brackets are closed that are open there: a document, or
+// one but for a rule.
 fn is_whole(alloc: Global, source: &Source<'_>, gap: &Gap) -> Result<bool, AllocError> {
     let mended = mended(alloc, source.text, gap, gap.open.len())?;
     let read = Source {
@@ -324,7 +325,8 @@ fn can_follow(
     is_front(alloc, source, mended.as_str())
 }
 
-// Whether a document may begin with this text, if it is read as the source is: whether no token before its end is refused.
+// Whether a document may begin with this text, if it is read as the source is: whether no token before its end is
+// rejected.
 fn is_front(alloc: Global, source: &Source<'_>, text: &str) -> Result<bool, AllocError> {
     let read = Source { text, ..*source };
     match error_of(&mut Memory::new(alloc), &read, true)? {
@@ -347,8 +349,9 @@ fn mended(alloc: Global, text: &str, gap: &Gap, count: usize) -> Result<String, 
     Ok(mended)
 }
 
-// What closes so many of the brackets that are open at a place, the inmost first. A bracket is closed in its line if that is where
-// the last token stands, and else in a line of its own, which begins as the one does in which the bracket stands.
+// What closes so many of the brackets that are open at a place, the inmost first. A bracket is closed in its line if
+// that is where the last token stands, and else in a line of its own, which begins as the one does in which the bracket
+// stands.
 fn closing_at(alloc: Global, text: &str, gap: &Gap, count: usize) -> Result<Closing, AllocError> {
     let mut closing = Closing {
         offset: gap.last,

@@ -13,8 +13,8 @@ use graphql_parser::{Error, Limits, Memory, Pos};
 use graphql_report::{Finding, Language, error_offsets, finding_from};
 use std::alloc::{AllocError, Global};
 
-/// The byte offsets between which a part of a text stands: the end is not before the start, and both are where a character begins,
-/// or the end of the text.
+/// The byte offsets between which a part of a text stands: the end is not before the start, and both are where a
+/// character begins, or the end of the text.
 #[derive(Clone, Copy, Debug, PartialEq, Eq)]
 pub struct Span {
     pub start: usize,
@@ -24,8 +24,8 @@ pub struct Span {
 /// One thing that is wrong with a text. (This project's own type.)
 #[derive(Drop)]
 pub struct Diagnosis {
-    /// Where it is: the refused token, its bad escape, or the words with which a definition begins. It is empty at the end of the
-    /// text.
+    /// Where it is: the rejected token, its bad escape, or the words with which a definition begins. It is empty at the
+    /// end of the text.
     pub span: Span,
     /// The name of the error's status, as C has it, without `GRAPHQL_PARSER_`.
     pub status: &'static str,
@@ -42,7 +42,7 @@ pub struct Diagnosis {
 pub struct Other {
     /// Where it is.
     pub span: Span,
-    /// What a report says of it.
+    /// What is said of it.
     pub message: &'static str,
 }
 
@@ -62,20 +62,20 @@ pub struct Fix {
 enum Repair {
     // Nothing is known.
     None,
-    // This word in place of the refused one.
+    // This word in place of the rejected one.
     Word(&'static str),
-    // Brackets, if some are missing before the refused token, of a text that was read from this offset on.
+    // Brackets, if some are missing before the rejected token, of a text that was read from this offset on.
     Brackets(usize),
 }
 
 // What is said of a bracket that isn't closed.
 const NOT_CLOSED: &str = "this bracket is not closed";
 
-/// All that is wrong with a text that is read as this language within these limits, as `gql check` reports it: in the order of the
-/// text, [`MOST_FINDINGS`] at most. There is nothing only if the text is good; a request may lack an operation. (This project's
-/// own call.)
+/// All that is wrong with a text that is read as this language within these limits, as `gql check` reports it: in the
+/// order of the text, [`MOST_FINDINGS`] at most. There is nothing only if the text is good; a request may lack an
+/// operation. (This project's own call.)
 ///
-/// An error says that memory was refused.
+/// An error says that memory was denied.
 pub fn diagnoses_of(
     alloc: Global,
     language: Language,
@@ -128,9 +128,10 @@ fn source_of(language: Language, text: &str, limits: Limits) -> Source<'_>
 }
 
 impl Diagnosis {
-    /// Where the bracket was opened that isn't closed, if that is what is wrong, of the text that this is a diagnosis of.
+    /// Where the bracket was opened that isn't closed, if that is what is wrong, of the text that this is a diagnosis
+    /// of.
     ///
-    /// An error says that memory was refused.
+    /// An error says that memory was denied.
     pub fn opening(
         &self,
         alloc: Global,
@@ -151,10 +152,10 @@ impl Diagnosis {
         }))
     }
 
-    /// What mends the text that this is a diagnosis of, if it is known: the word that may have been meant, or what closes the
-    /// brackets that are open.
+    /// What mends the text that this is a diagnosis of, if it is known: the word that may have been meant, or what
+    /// closes the brackets that are open.
     ///
-    /// An error says that memory was refused.
+    /// An error says that memory was denied.
     pub fn fix(
         &self,
         alloc: Global,
@@ -257,7 +258,7 @@ struct Marks {
     other: Option<Other>,
 }
 
-// Where an error of a text is shown that a report tells at this place.
+// Where an error of a text is shown whose report has this place.
 fn marks_of(
     alloc: Global,
     source: &Source<'_>,
@@ -277,7 +278,7 @@ fn marks_of(
     }
 }
 
-/// What stands between these offsets of a text; its end where they are none.
+/// What stands between these byte offsets of a text; its end if they are none of its.
 pub fn span_at(text: &str, start: usize, end: usize) -> Span
     ensures { IsWithin text.now result }
 {
@@ -343,7 +344,7 @@ fn span_of_words(text: &str, start: usize) -> Span
 
 // ---- tokens
 
-// A refused token, or its bad escape, if that is at the place that is told.
+// A rejected token, or its bad escape, if that is at the place of the report.
 fn span_of_token(text: &str, token: &Token<'_>, place: Option<Pos>) -> Span
     ensures { IsWithin text.now result }
 {
@@ -375,8 +376,8 @@ fn length_of_first(text: &str, count: usize) -> usize {
     text.len().saturating_sub(rest.as_str().len())
 }
 
-// How many bytes are shown of what begins no token: the quotes of a block string that isn't closed, the rest of the line of a
-// string, an escape, what looks like a number or a spread, or one character.
+// How many bytes are shown of what begins no token: the quotes of a block string that isn't closed, the rest of the
+// line of a string, an escape, what looks like a number or a spread, or one character.
 fn length_of_fault(fault: &str) -> usize {
     if fault.starts_with("\"\"\"") {
         return 3;

@@ -79,8 +79,8 @@ fn printed_schema(alloc: Global, text: &str, limits: Limits) -> Result<String, E
     Ok(printed)
 }
 
-/// The tree of this source as JSON, with a line feed at its end, and with the place of each node that has one, if that is asked
-/// for. An error is that of the parse.
+/// The tree of this source as JSON, with a line feed at its end, and with the place of each node that has one, if that
+/// is asked for. An error is that of the parse.
 pub fn tree_line(alloc: Global, source: &Source<'_>, has_places: bool) -> Result<String, Error> {
     let places = if has_places {
         Places::Written
