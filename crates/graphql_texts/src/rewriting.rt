@@ -97,14 +97,13 @@ pub fn tree_line(alloc: Global, source: &Source<'_>, has_places: bool) -> Result
 fn tree_json(alloc: Global, source: &Source<'_>, places: Places) -> Result<Vec<u8>, Error>
     ensures { IfOk result (λ json. IsUtf8 json.items) }
 {
-    let Source { limits, text, .. } = *source;
     match source.language {
         Language::Requests => {
-            let document = parse_query_limited(alloc, text, limits)?;
+            let document = parse_query_limited(alloc, source.text, source.limits)?;
             Ok(request_json(alloc, &document, places)?)
         }
         Language::Schemas => {
-            let document = parse_schema_limited(alloc, text, limits)?;
+            let document = parse_schema_limited(alloc, source.text, source.limits)?;
             Ok(schema_json(alloc, &document, places)?)
         }
     }
