@@ -275,13 +275,7 @@ impl Teller {
     }
 
     // Reports the error of a text of whose reading this is known.
-    fn report_error(
-        &mut self,
-        name: &str,
-        source: &Source<'_>,
-        known: &ReadUpTo<'_>,
-        error: &Error,
-    )
+    fn report_error(&mut self, name: &str, source: &Source<'_>, known: &ReadUpTo<'_>, error: &Error)
         requires { BeginsAt source.now.text.now known.now.from }
     {
         self.findings = self.findings.saturating_add(1);
@@ -291,7 +285,9 @@ impl Teller {
             text,
             ..
         } = *source;
-        match explain_from(self.style, self.alloc, language, name, text, known, limits, error) {
+        match explain_from(
+            self.style, self.alloc, language, name, text, known, limits, error,
+        ) {
             Ok(report) => self.report(report.as_str()),
             Err(_) => self.is_out_of_memory = true,
         }

@@ -207,6 +207,7 @@ pub struct Disk<'a> {
 impl Texts for Disk<'_> {
     // Nothing is known of what a machine's files hold.
     ghost gives = { λ _ _ _ _. Unit {0} };
+
     ghost puts = { λ _ _ _ _ _. Unit {0} };
 
     fn text(&mut self, alloc: Global, name: &str) -> Result<String, Unread> {

@@ -35,12 +35,7 @@ pub fn write_fixes(
 }
 
 // Whether a range touches a diagnosis, or the line of its other place.
-fn touches(
-    asked: Asked<'_>,
-    range: Range,
-    diagnosis: &Diagnosis,
-    other: Option<Other>,
-) -> bool {
+fn touches(asked: Asked<'_>, range: Range, diagnosis: &Diagnosis, other: Option<Other>) -> bool {
     let touches_span = diagnosis.span.start <= asked.offset_of(range.end)
         && diagnosis.span.end >= asked.offset_of(range.start);
     touches_span

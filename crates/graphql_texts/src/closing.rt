@@ -209,7 +209,8 @@ impl Walk<'_> {
         if self.gap.open.is_empty() {
             self.gap.definition = start;
         } else if self.suspected.is_none() && !is_within(rest, first, second) {
-            let mut suspected = self.gap.within(alloc, self.gap.definition)?;
+            let definition = self.gap.definition;
+            let mut suspected = self.gap.within(alloc, definition)?;
             suspected.next = start;
             suspected.after = self.from.saturating_add(end_of(second));
             self.suspected = Some(suspected);

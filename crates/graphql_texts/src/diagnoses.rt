@@ -87,7 +87,7 @@ pub fn diagnoses_of(
 {
     let source = source_of(language, text, limits);
     match error_of(&mut Memory::new(alloc), &source, true)? {
-        Some(refused) => diagnoses_from(alloc, &source, refused),
+        Some(refused) => Ok(diagnoses_from(alloc, &source, refused)?),
         None => Ok(Vec::new(alloc)),
     }
 }
@@ -180,11 +180,7 @@ impl Diagnosis {
     }
 
     // The brackets that aren't closed, if that is what is wrong with the text.
-    fn missing(
-        &self,
-        alloc: Global,
-        source: &Source<'_>,
-    ) -> Result<Option<Missing>, AllocError> {
+    fn missing(&self, alloc: Global, source: &Source<'_>) -> Result<Option<Missing>, AllocError> {
         let Repair::Brackets(from) = self.repair else {
             return Ok(None);
         };
@@ -243,8 +239,8 @@ fn repair_of(mistake: &Mistake<'_>, finding: &Finding) -> Repair {
     match (mistake.known.token, finding.meant) {
         (Some(_), Some(word)) => Repair::Word(word),
         (Some(token), None)
-            if matches!(mistake.error, Error::Syntax { .. }) && !matches!(token.kind, TokenKind::Fault) =>
-        {
+            if matches!(mistake.error, Error::Syntax { .. })
+                && !matches!(token.kind, TokenKind::Fault) => {
             Repair::Brackets(mistake.known.from.offset)
         }
         _ => Repair::None,

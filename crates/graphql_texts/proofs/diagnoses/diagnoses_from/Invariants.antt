@@ -7,5 +7,5 @@ abbrev pub invariant-loop : goal.invariant-loop
 invariant-loop l = record {
   begins : BeginsAt l.source.text.now l.mistake.known.from;
   some : 0 < length l.found.items;
-  within : All (IsDiagnosisOf l.text) l.found.items;
+  within : All (IsDiagnosisOf l.source.text.now) l.found.items;
 }
