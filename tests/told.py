@@ -402,9 +402,9 @@ DEPTH = 4
 
 def rests(text, first, last):
     """Copies of the rests of a text from each line between these on with which a definition may begin, with as many lines before them."""
-    starts = [match.end() for match in re.finditer("\n", text)]
-    lines = [(number, start) for number, start in enumerate(starts) if first <= number + 2 <= last]
-    return ["\n" * (number + 1) + text[start:] for number, start in lines if re.match('[a-z{"]', text[start:])]
+    starts = [(text.count("\n", 0, match.end()), match.end()) for match in re.finditer("\r\n|\r|\n", text)]
+    lines = [(feeds, start) for feeds, start in starts if first <= feeds + 1 <= last]
+    return ["\n" * feeds + text[start:] for feeds, start in lines if re.match('[a-z{"]', text[start:])]
 
 
 class Alike:

@@ -12,7 +12,7 @@ use crate::texts::{Texts, Unread};
 use graphql_parser::Memory;
 use graphql_parser::lexer::Tokens;
 use graphql_texts::check::error_of;
-use graphql_texts::errors::{Names, Source};
+use graphql_texts::errors::Source;
 use graphql_texts::language::read_as;
 use std::alloc::{AllocError, Global};
 use std::io::Write;
@@ -39,9 +39,10 @@ impl Found {
     }
 }
 
-/// Reads each of these files and checks it, one after another, and reports what is wrong with it. Reports go to `err` before the
-/// next file is read, and what is for standard output is kept. No text is kept while the next one is read. The status is 0 only
-/// if each file has a text that is good, or a blank one if requests may hold fragments alone; it is 2 if memory ran out.
+/// Reads each of these files and checks it, one after another, and reports what is wrong with it. Reports go to `err`
+/// before the next file is read, and what is for standard output is kept. No text is kept while the next one is read.
+/// The status is 0 only if each file has a text that is good, or a blank one if requests may hold fragments alone; it
+/// is 2 if memory ran out.
 pub fn check_files<T: Texts, E: Write>(
     call: &Call<'_>,
     files: &[String],
@@ -111,19 +112,11 @@ pub fn source_of<'a>(
         (source.text.now ≡ text.now) × (source.limits ≡ call.now.limits)) }
 {
     Ok(Source {
-        names: names_of(name),
+        name: reported_name(name),
         language: read_as(alloc, call.language, name, text)?,
         limits: call.limits,
         text,
     })
-}
-
-/// The names of a file that a call names so. How a terminal shows the name is found only for a report.
-pub fn names_of(name: &str) -> Names<'_> {
-    Names {
-        shown: "",
-        name: reported_name(name),
-    }
 }
 
 /// Whether a text is empty, or has nothing but blanks, commas, line ends and comments.
@@ -137,8 +130,8 @@ pub fn is_blank(text: &str) -> bool
     }
 }
 
-/// What is found of a text, after what is wrong with it is reported. If memory is refused, a budget stops the check of this
-/// text alone.
+/// What is found of a text, after what is wrong with it is reported. If memory is refused, a budget stops the check of
+/// this text alone.
 pub fn check_source(call: &Call<'_>, source: &Source<'_>, teller: &mut Teller) -> Found
     ensures { (result ≡ Good) →
         IsGoodText call.now.takes_fragments source.now.language source.now.limits
@@ -152,7 +145,7 @@ pub fn check_source(call: &Call<'_>, source: &Source<'_>, teller: &mut Teller) -
             Found::Rejected
         }
         Err(_) if call.memory.is_some() => {
-            teller.tell_unread(source.names.name, Unread::OverBudget);
+            teller.tell_unread(source.name, Unread::OverBudget);
             Found::Unread
         }
         Err(_) => teller.run_out(),

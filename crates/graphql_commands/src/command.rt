@@ -27,7 +27,7 @@ pub enum Command {
     Lsp,
 }
 
-/// How findings are told.
+/// How findings are reported.
 #[derive(Clone, Copy)]
 pub enum Format {
     /// `text`: a report each, for people.
@@ -44,10 +44,10 @@ pub struct Call<'a> {
     pub command: Command,
     /// The names of the files, and for `check` and `format` of folders too; `-` is standard input.
     pub files: Vec<&'a str>,
-    /// What the texts are read as; None where each file tells it.
+    /// What the texts are read as; None if each file says it.
     pub language: Option<Language>,
     pub limits: Limits,
-    /// `--memory`: how many bytes the check of a text may take; None where it may take what there is.
+    /// `--memory`: how many bytes the check of a text may take; None if it may take what there is.
     pub memory: Option<usize>,
     /// `--no-ignore`: all of a folder is searched.
     pub takes_all: bool,
@@ -55,15 +55,15 @@ pub struct Call<'a> {
     pub only_checks: bool,
     /// `-v`: a line for each good text, or each that is written.
     pub is_verbose: bool,
-    /// A request that lacks nothing but an operation is good: so it is without `--executable`.
+    /// A request in which only an operation is missing is good: so it is without `--executable`.
     pub takes_fragments: bool,
     /// `--places`: each node of the tree that has a place is written with it.
     pub has_places: bool,
     /// `--format`.
     pub format: Format,
-    /// `-q`: nothing is told but the status.
+    /// `-q`: nothing is reported but the status.
     pub is_quiet: bool,
-    /// `--color`: how reports are written; None where that depends on the terminal.
+    /// `--color`: how reports are written; None if that depends on the terminal.
     pub style: Option<Style>,
 }
 
@@ -159,8 +159,8 @@ fn command_named(word: &str) -> Result<Command, NoCall<'_>> {
     }
 }
 
-/// Whether these arguments, those after the program's name, ask for the language server: `lsp`, and no more than the options that
-/// editors give to every server. [`run`](crate::run) answers all others. (This project's own call.)
+/// Whether these arguments, those after the program's name, ask for the language server: `lsp`, and no more than the
+/// options that editors give to every server. [`run`](crate::run) answers all others. (This project's own call.)
 pub fn is_server(words: &[String]) -> bool
     ensures { result ≡ asks_for_server (map string_bytes words.now) }
 {
@@ -181,8 +181,8 @@ fn are_server_options(words: &[String]) -> bool
     true
 }
 
-// Whether editors give this option to every server: that it speaks on standard input and output, and by which process it was
-// started. Neither changes what the server does, which ends with its input.
+// Whether editors give this option to every server: that it speaks on standard input and output, and by which process
+// it was started. Neither changes what the server does, which ends with its input.
 fn is_server_option(word: &str) -> bool
     ensures { result ≡ is_server_option word.now }
 {
@@ -326,8 +326,8 @@ fn read_option<'a>(call: &mut Call<'a>, word: &'a str) -> Result<Next, NoCall<'a
     Ok(Next::Any)
 }
 
-// Reads an option that has a value, which is the next word or stands after `=`. The process by which a server was started is
-// passed over.
+// Reads an option that has a value, which is the next word or stands after `=`. The process by which a server was
+// started is passed over.
 fn read_valued<'a>(call: &mut Call<'a>, word: &'a str) -> Result<Next, NoCall<'a>>
     ensures language { call.new.language ≡ call.old.language }
     ensures next { IfOk result (λ next. (said : Opt Lang) (words : List (List ℕ)) →

@@ -1,12 +1,12 @@
 //! What the patterns of a `.gitignore` file exclude, as gitignore(5) says.
 //!
-//! A pattern is matched as an automaton: of each byte of a path it is known which places of the pattern are reached, so the work is
-//! at most the length of the pattern times that of the path.
+//! A pattern is matched as an automaton: of each byte of a path it is known which places of the pattern are reached, so
+//! the work is at most the length of the pattern times that of the path.
 use std::alloc::{AllocError, Global};
 
-/// Whether these patterns, the lines of a `.gitignore` file, exclude the file or the folder of this path: its names from the folder
-/// of that file on, with `/` between them. What is in an excluded folder is excluded too, but that isn't seen here. The error says
-/// that memory was refused.
+/// Whether these patterns, the lines of a `.gitignore` file, exclude the file or the folder of this path: its names
+/// from the folder of that file on, with `/` between them. What is in an excluded folder is excluded too, but that
+/// isn't seen here. The error says that memory was refused.
 pub fn is_ignored(
     alloc: Global,
     patterns: &str,
@@ -23,9 +23,9 @@ pub fn is_ignored(
     Ok(is_ignored)
 }
 
-// Whether a path is excluded after this line, if it is or isn't before it. A comment and an empty line have no pattern. One after
-// `!` takes back what lines before it exclude, one before `/` is for folders, and one without a `/` elsewhere is for the path's
-// last name.
+// Whether a path is excluded after this line, if it is or isn't before it. A comment and an empty line have no pattern.
+// One after `!` takes back what lines before it exclude, one before `/` is for folders, and one without a `/` elsewhere
+// is for the path's last name.
 fn is_ignored_after(
     line: &str,
     path: &str,
@@ -62,8 +62,8 @@ fn without_blanks(line: &str) -> &str {
     line.get(..kept.len().saturating_add(1)).unwrap_or(kept)
 }
 
-// Whether a pattern matches the whole text. `reached` has a place for each byte of the pattern and one for its end, and says which
-// of them are reached after some bytes of the text.
+// Whether a pattern matches the whole text. `reached` has a place for each byte of the pattern and one for its end, and
+// says which of them are reached after some bytes of the text.
 fn matches(pattern: &str, text: &[u8], reached: &mut [bool]) -> bool {
     for at in 0..pattern.len().saturating_add(1) {
         set(reached, at, at == 0);
@@ -100,7 +100,8 @@ fn pass_stars(pattern: &str, begins: bool, reached: &mut [bool]) {
     }
 }
 
-// Reaches what this byte leads to, and leaves what it leads from. It leads to no place before that, so the last are left first.
+// Reaches what this byte leads to, and leaves what it leads from. It leads to no place before that, so the last are
+// left first.
 fn take(pattern: &str, byte: u8, reached: &mut [bool]) {
     set(reached, pattern.len(), false);
     for at in (0..pattern.len()).rev() {
@@ -163,7 +164,8 @@ fn stars_at(pattern: &str, at: usize) -> Option<(Stars, usize)> {
     Some((Stars::InName, after))
 }
 
-// Whether a set that begins at this place, after its bracket, has this byte, and the place after it; None if it doesn't end.
+// Whether a set that begins at this place, after its bracket, has this byte, and the place after it; None if it doesn't
+// end.
 fn set_has(pattern: &str, start: usize, byte: u8) -> Option<(bool, usize)> {
     let bytes = pattern.as_bytes();
     let is_negated = matches!(bytes.get(start), Some(b'!' | b'^'));
@@ -181,7 +183,8 @@ fn set_has(pattern: &str, start: usize, byte: u8) -> Option<(bool, usize)> {
     None
 }
 
-// Whether the member of a set at this place has this byte, and the place after it: a class as `[:alpha:]`, a range, or a byte.
+// Whether the member of a set at this place has this byte, and the place after it: a class as `[:alpha:]`, a range, or
+// a byte.
 fn member_has(pattern: &str, at: usize, byte: u8) -> Option<(bool, usize)> {
     if let Some((name, after)) = class_at(pattern, at) {
         return Some((class_has(name, byte)?, after));

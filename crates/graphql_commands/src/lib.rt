@@ -1,13 +1,15 @@
 //! The work of the program `gql`, over any source of texts and any writers.
 //!
-//! [`run`] does all that a call of the program asks for. The modules have its parts: what a call asks for ([`command`]),
-//! where texts come from and go to ([`texts`]), what of a folder is ignored ([`ignoring`]), which files are good ([`check`]), what is reported of them ([`telling`]), files that
-//! are written anew ([`rewriting`]), and lists of tokens ([`listed`]). What is done with one text is `graphql_texts`.
+//! [`run`] does all that a call of the program asks for. The modules have its parts: what a call asks for
+//! ([`command`]), where texts come from and go to ([`texts`]), what of a folder is ignored ([`ignoring`]), which files
+//! are good ([`check`]), what is reported of them ([`telling`]), files that are written anew ([`rewriting`]), and lists
+//! of tokens ([`listed`]). What is done with one text is `graphql_texts`.
 //!
-//! Proved of it: it is safe and ends on every input; the status is 0, 1 or 2; a text is found good only where its tokens
-//! have a tree, in the language that the options or the file's name say, or where it has no token and may have none, and the
-//! files that are checked end with status 0 only where each of them was found good; only a good text is written anew, and it
-//! means the same then, and so does what is printed of a tree. What else it prints is tested, in `conformance`.
+//! Proved of it: it is safe and ends on every input; the status is 0, 1 or 2; a text is found good only if its tokens
+//! have a tree, in the language that the options or the file's name say, or if it has no token and may have none, and
+//! the files that are checked end with status 0 only if each of them was found good; only a good text is written anew,
+//! and it means the same then, and so does what is printed of a tree; what is put in the place of a file is what was
+//! read of it, laid out. What else it prints is tested, in `conformance`.
 #![tactic(auto)]
 
 pub mod check;

@@ -5,8 +5,8 @@ use std::alloc::{AllocError, Global};
 use std::io;
 use std::io::{ErrorKind, Write};
 
-/// Writes all of the bytes, and returns whether it could. That nobody reads them any more, as where `head` has its lines, is
-/// no failure: what is left is then written to nobody.
+/// Writes all of the bytes, and returns whether it could. That nobody reads them any more, as when `head` has its
+/// lines, is no failure: what is left is then written to nobody.
 pub fn put<W: Write>(to: &mut W, bytes: &[u8]) -> bool {
     match write_whole(to, bytes) {
         Ok(()) => true,

@@ -1,6 +1,5 @@
 //! The program's work, over any source of texts and any writers.
-ghost use Rattle.std.specs.Prelude.{◌≡◌, ◌≤◌, ◌<◌, ◌⊎◌, IfOk};
-ghost use Rattle.std.specs.Str.{IsUtf8};
+ghost use Rattle.std.specs.Prelude.{◌≡◌, ◌≤◌, ◌<◌, ◌⊎◌};
 ghost use Rattle.graphql_commands.specs.declared.texts.Unread.TheVariants.{Forbidden, BadName};
 
 use crate::check::{check_files, is_blank, source_of};
@@ -10,10 +9,8 @@ use crate::output::put;
 use crate::rewriting::{format_files, found_by, written_anew};
 use crate::telling::Teller;
 use crate::texts::{Listing, Passed, Texts, Unread};
-use graphql_json::{Places, request_json, schema_json};
-use graphql_parser::{Error, parse_query_limited, parse_schema_limited};
-use graphql_report::{Language, Style};
-use graphql_texts::errors::Source;
+use graphql_report::Style;
+use graphql_texts::rewriting::tree_line;
 use std::alloc::{AllocError, Global};
 use std::io::{ErrorKind, Write};
 
@@ -74,14 +71,14 @@ can't be written, if memory runs out, and for a wrong call. If the reader of sta
 the status is the same as if it had stayed.
 ";
 
-/// Does the work of the program, and returns the exit status: 0, or 1 if a text is rejected, or would be written anew and
-/// is only checked, or 2 for wrong arguments, a file that can't be read or written or is no UTF-8, output that can't be
-/// written, and memory that is refused. That the reader of `out` has gone away changes no status.
+/// Does the work of the program, and returns the exit status: 0, or 1 if a text is rejected, or would be written anew
+/// and is only checked, or 2 for wrong arguments, a file that can't be read or written or is no UTF-8, output that
+/// can't be written, and memory that is refused. That the reader of `out` has gone away changes no status.
 ///
-/// `words` are the arguments without the program's name, or how reading them failed: without memory, or else since one is no
-/// text. Texts are read from `texts`, and put there in the place of others; lists, trees and other texts go to `out`, reports
-/// and complaints to `err`, the reports in this style. If memory runs out, nothing goes to `out`, and what goes to `err` are
-/// whole lines of what went there else, and that memory ran out.
+/// `words` are the arguments without the program's name, or how reading them failed: without memory, or else since one
+/// is no text. Texts are read from `texts`, and put there in the place of others; lists, trees and other texts go to
+/// `out`, reports and complaints to `err`, the reports in this style. If memory runs out, nothing goes to `out`, and
+/// what goes to `err` are whole lines of what went there else, and that memory ran out.
 pub fn run<T: Texts, O: Write, E: Write>(
     alloc: Global,
     words: Result<&[String], ErrorKind>,
@@ -223,35 +220,6 @@ fn print_tree<'a>(call: &Call<'_>, name: &'a str, text: &'a str, teller: &mut Te
     }
 }
 
-// The tree of a text as JSON with a line feed after it, or the text's error.
-fn tree_line(alloc: Global, source: &Source<'_>, has_places: bool) -> Result<String, Error> {
-    let json = tree_json(alloc, source, has_places)?;
-    let mut line = String::from_utf8(json).unwrap();
-    line.push('\n')?;
-    Ok(line)
-}
-
-fn tree_json(alloc: Global, source: &Source<'_>, has_places: bool) -> Result<Vec<u8>, Error>
-    ensures { IfOk result (λ json. IsUtf8 json.items) }
-{
-    let Source { limits, text, .. } = *source;
-    let places = if has_places {
-        Places::Written
-    } else {
-        Places::LeftOut
-    };
-    match source.language {
-        Language::Requests => {
-            let document = parse_query_limited(alloc, text, limits)?;
-            Ok(request_json(alloc, &document, places)?)
-        }
-        Language::Schemas => {
-            let document = parse_schema_limited(alloc, text, limits)?;
-            Ok(schema_json(alloc, &document, places)?)
-        }
-    }
-}
-
 // `check`, and `format` of files: what is done with each file, and how many there were of each kind.
 fn each<T: Texts, E: Write>(call: &Call<'_>, texts: &mut T, teller: &mut Teller, err: &mut E) -> u8
     ensures { result ≤ 2 }
@@ -276,7 +244,7 @@ fn status_beside(status: u8, unlisted: usize) -> u8
     if unlisted > 0 { 2 } else { status }
 }
 
-// Adds how many files there were, for people; nothing is printed where only the status is asked for.
+// Adds how many files there were, for people; nothing is printed if only the status is asked for.
 fn tell_counts(call: &Call<'_>, teller: &mut Teller) {
     if call.is_quiet {
         teller.lines.clear();
@@ -288,8 +256,9 @@ fn tell_counts(call: &Call<'_>, teller: &mut Teller) {
     }
 }
 
-// Adds the files that are read: those of the call, and in place of a folder those below it. Reports what can't be read there or
-// is skipped, and each folder that has no file or can't be listed; returns how much of that should have been read.
+// Adds the files that are read: those of the call, and in place of a folder those below it. Reports what can't be read
+// there or is skipped, and each folder that has no file or can't be listed; returns how much of that should have been
+// read.
 fn push_files<T: Texts>(
     call: &Call<'_>,
     texts: &mut T,
@@ -333,7 +302,7 @@ fn push_found(name: &str, found: Listing, files: &mut Vec<String>, teller: &mut 
     unread
 }
 
-// Reports why there is no text under this name, and returns 1, or 0 where it is only skipped.
+// Reports why there is no text under this name, and returns 1, or 0 if it is only skipped.
 fn tell_passed(name: &str, why: Unread, teller: &mut Teller) -> usize
     ensures { (why ≡ Forbidden) ⊎ (why ≡ BadName) → result ≡ 1 }
 {

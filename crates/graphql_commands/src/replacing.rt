@@ -1,7 +1,8 @@
-//! Writing texts into the files of the machine, each in its place, so that its owner, its permissions and its links stay.
+//! Writing texts into the files of the machine, each in its place, so that its owner, its permissions and its links
+//! stay.
 //!
-//! Before a byte of a file goes, a copy of its old text is on the disk: beside it, or else in the folder for temporary files. So
-//! nothing is lost where the run ends in the middle. Where a write fails, the old text is put back.
+//! Before a byte of a file goes, a copy of its old text is on the disk: beside it, or else in the folder for temporary
+//! files. So nothing is lost if the run ends in the middle. If a write fails, the old text is put back.
 ghost use Rattle.std.specs.Prelude.{◌≤◌, length};
 
 use crate::texts::Unwritten;
@@ -27,8 +28,8 @@ struct Failed {
     is_back: bool,
 }
 
-/// Writes this text into the file of this name in place of its old one. Where that fails, the file has its old text; or else the
-/// error names the copy that has it.
+/// Writes this text into the file of this name in place of its old one. Where that fails, the file has its old text; or
+/// else the error names the copy that has it.
 pub fn replace(rt: &HostRuntime, alloc: Global, name: &str, text: &str) -> Result<(), Unwritten> {
     let mut old = Vec::new(alloc);
     match opened(rt, name, &mut old) {
@@ -50,7 +51,7 @@ fn replace_old(
     match written_over(file, old, text) {
         Err(Failed { is_back: false, .. }) => Err(Unwritten::HalfWritten(copy)),
         written => {
-            // The text is where it belongs, and so is the old one where it isn't.
+            // The text is where it belongs, and so is the old one if it isn't.
             let _ = fs::remove_file(rt, copy.as_str());
             match written {
                 Ok(()) => Ok(()),
@@ -85,7 +86,8 @@ fn opened(rt: &HostRuntime, name: &str, old: &mut Vec<u8>) -> io::Result<File> {
 
 // ---- the copy
 
-// Makes a copy of a file's bytes that is on the disk, beside it or in the folder for temporary files, and returns its name.
+// Makes a copy of a file's bytes that is on the disk, beside it or in the folder for temporary files, and returns its
+// name.
 fn copied(rt: &HostRuntime, alloc: Global, name: &str, bytes: &[u8]) -> Result<String, Unwritten> {
     let (folder, name) = match name.rsplit_once('/') {
         Some((folder, name)) => (folder, name),
@@ -110,7 +112,7 @@ fn copied_elsewhere(
     }
 }
 
-// The same in one folder, in which nothing is left where it fails.
+// The same in one folder, in which nothing is left if it fails.
 fn copied_into(
     rt: &HostRuntime,
     alloc: Global,
@@ -186,7 +188,7 @@ fn written_safely(file: &mut File, bytes: &[u8]) -> io::Result<()> {
 
 // ---- the file
 
-// Writes a text over the old one of a file, and puts that back where it fails. The file keeps its permissions.
+// Writes a text over the old one of a file, and puts that back if it fails. The file keeps its permissions.
 fn written_over(file: &File, old: &[u8], text: &[u8]) -> Result<(), Failed> {
     let permissions = match file.metadata() {
         Ok(metadata) => metadata.permissions(),

@@ -13,7 +13,7 @@ use graphql_parser::pos::PositionCalculator;
 use graphql_parser::{Error, Pos};
 use graphql_report::{ReadUpTo, Style, explain_from, finding_of};
 use graphql_texts::errors::{MOST_FINDINGS, Mistake, Refused, Source, first_error, next_error};
-use graphql_texts::{Diagnosis, diagnoses_of};
+use graphql_texts::{Diagnosis, diagnoses_from};
 use std::alloc::{AllocError, Global};
 use std::io::Write;
 
@@ -62,8 +62,8 @@ impl Teller {
         }
     }
 
-    /// Writes the reports so far to standard error; a failure there changes no status. The error says that memory ran out before:
-    /// then only whole lines are written.
+    /// Writes the reports so far to standard error; a failure there changes no status. The error says that memory ran
+    /// out before: then only whole lines are written.
     pub fn put_reports<E: Write>(&mut self, err: &mut E) -> Result<(), AllocError> {
         put(err, whole_lines(self.reports.as_str()).as_bytes());
         self.reports.clear();
@@ -187,8 +187,8 @@ impl Teller {
         self.unchanged = self.unchanged.saturating_add(1);
     }
 
-    /// Adds how many files there were, as `3 files: 1 good, 1 rejected (2 findings), 1 not read`. This word says what was done with
-    /// those with which all is well.
+    /// Adds how many files there were, as `3 files: 1 good, 1 rejected (2 findings), 1 not read`. This word says what
+    /// was done with those with which all is well.
     pub fn count_files(&mut self, done: &str) {
         let count = self
             .done
@@ -231,16 +231,20 @@ impl Teller {
             return;
         }
         if let Format::Text = self.format {
-            self.report_mistakes(source, refused);
+            match shown_name(self.alloc, source.name) {
+                Ok(name) => self.report_mistakes(name.as_str(), source, refused),
+                Err(_) => self.is_out_of_memory = true,
+            }
         } else {
-            self.list_mistakes(source, &refused.error);
+            self.list_mistakes(source, refused);
         }
     }
 
-    fn report_mistakes<'a>(&mut self, source: &Source<'a>, refused: Refused<'a>) {
+    // Reports what is wrong with a text of a file of this name, as a terminal shows it.
+    fn report_mistakes<'a>(&mut self, name: &str, source: &Source<'a>, refused: Refused<'a>) {
         let mut mistake = first_error(source, refused);
         for _ in 0..MOST_FINDINGS {
-            self.report_mistake(source, &mistake);
+            self.report_mistake(name, source, &mistake);
             match next_error(self.alloc, source, &mistake) {
                 Ok(Some(next)) => mistake = next,
                 Ok(None) => break,
@@ -253,47 +257,58 @@ impl Teller {
     }
 
     // Reports an error of a text.
-    fn report_mistake(&mut self, source: &Source<'_>, mistake: &Mistake<'_>)
+    fn report_mistake(&mut self, name: &str, source: &Source<'_>, mistake: &Mistake<'_>)
         requires { BeginsAt source.now.text.now mistake.now.known.from }
     {
         let (told, read) = mistake.told_in(source);
-        self.report_error(&told, &read, &mistake.error);
+        self.report_error(name, &told, &read, &mistake.error);
     }
 
     /// Reports the error of a text that was read from its beginning on.
     pub fn tell_one(&mut self, source: &Source<'_>, error: &Error) {
-        match source.refused_first(self.alloc, error) {
-            Ok(known) => self.report_error(source, &known, error),
-            Err(_) => self.is_out_of_memory = true,
+        let shown = shown_name(self.alloc, source.name);
+        let known = source.refused_first(self.alloc, error);
+        match (shown, known) {
+            (Ok(name), Ok(known)) => self.report_error(name.as_str(), source, &known, error),
+            _ => self.is_out_of_memory = true,
         }
     }
 
     // Reports the error of a text of whose reading this is known.
-    fn report_error(&mut self, source: &Source<'_>, known: &ReadUpTo<'_>, error: &Error)
+    fn report_error(&mut self, name: &str, source: &Source<'_>, known: &ReadUpTo<'_>, error: &Error)
         requires { BeginsAt source.now.text.now known.now.from }
     {
         self.findings = self.findings.saturating_add(1);
-        match report_of(self.alloc, self.style, source, known, error) {
+        let Source {
+            language,
+            limits,
+            text,
+            ..
+        } = *source;
+        match explain_from(
+            self.style, self.alloc, language, name, text, known, limits, error,
+        ) {
             Ok(report) => self.report(report.as_str()),
             Err(_) => self.is_out_of_memory = true,
         }
     }
 
-    // Adds the lines of what is wrong with a text, whose first error this is: what an editor shows of it.
-    fn list_mistakes(&mut self, source: &Source<'_>, error: &Error) {
-        match diagnoses_of(self.alloc, source.language, source.text, source.limits) {
-            Ok(found) => self.list_diagnoses(source, error, found.as_slice()),
+    // Adds the lines of what is wrong with a text, of which this is wrong first: what an editor shows of it. An editor
+    // shows nothing if a text needs an operation and has only fragments.
+    fn list_mistakes<'a>(&mut self, source: &Source<'a>, refused: Refused<'a>) {
+        if let Error::MissingOperation = refused.error {
+            return self.list_error(source, &refused.error);
+        }
+        match diagnoses_from(self.alloc, source, refused) {
+            Ok(found) => self.list_diagnoses(source, found.as_slice()),
             Err(_) => self.is_out_of_memory = true,
         }
     }
 
-    // The same of these diagnoses. An editor shows none if a text needs an operation and has only fragments.
-    fn list_diagnoses(&mut self, source: &Source<'_>, error: &Error, found: &[Diagnosis])
+    // The same of these diagnoses.
+    fn list_diagnoses(&mut self, source: &Source<'_>, found: &[Diagnosis])
         requires { All (IsDiagnosisOf source.now.text.now) found.now }
     {
-        if found.is_empty() {
-            self.list_error(source, error);
-        }
         let mut places = PositionCalculator::new(source.text);
         let mut passed = 0usize;
         for diagnosis in found {
@@ -302,7 +317,7 @@ impl Teller {
             let end = places.step(diagnosis.span.end);
             passed = diagnosis.span.end;
             self.push_line(&Line {
-                name: source.names.name,
+                name: source.name,
                 range: Some((start, end)),
                 status: diagnosis.status,
                 message: diagnosis.message.as_str(),
@@ -320,7 +335,7 @@ impl Teller {
             error,
         ) {
             Ok(found) => self.push_line(&Line {
-                name: source.names.name,
+                name: source.name,
                 range: None,
                 status: found.status,
                 message: found.message.as_str(),
@@ -357,7 +372,8 @@ impl Teller {
         });
     }
 
-    /// Reports to people why a file isn't written. If its old text is elsewhere, that is reported even if all else is quiet.
+    /// Reports to people why a file isn't written. If its old text is elsewhere, that is reported even if all else is
+    /// quiet.
     pub fn tell_unwritten(&mut self, name: &str, why: &Unwritten) {
         let Some(words) = why.words() else {
             self.is_out_of_memory = true;
@@ -478,27 +494,6 @@ struct Line<'a> {
     range: Option<(Pos, Pos)>,
     status: &'static str,
     message: &'a str,
-}
-
-// The report of an error of a text of whose reading this is known.
-fn report_of(
-    alloc: Global,
-    style: Style,
-    source: &Source<'_>,
-    known: &ReadUpTo<'_>,
-    error: &Error,
-) -> Result<String, AllocError>
-    requires { BeginsAt source.now.text.now known.now.from }
-{
-    let Source {
-        names,
-        language,
-        limits,
-        text,
-    } = *source;
-    let shown = shown_name(alloc, names.name)?;
-    let name = shown.as_str();
-    explain_from(style, alloc, language, name, text, known, limits, error)
 }
 
 // Finds the places of a text from this offset on, as these do that have passed so much, or else from the beginning.

@@ -3,6 +3,7 @@ ghost use Rattle.std.specs.Prelude.{◌≡◌, ◌⊎◌, false, ℕ, List, Resu
 ghost use Rattle.std.specs.declared.alloc.Global.{Global};
 ghost use Rattle.std.specs.declared.string.String.{String as Text};
 ghost use Rattle.graphql_commands.specs.declared.texts.Unread.{Unread};
+ghost use Rattle.graphql_commands.specs.declared.texts.Unwritten.{Unwritten};
 ghost use Rattle.graphql_commands.specs.declared.texts.Unread.TheVariants.{Forbidden, BadName};
 
 use crate::replacing::replace;
@@ -43,7 +44,7 @@ pub enum Unread {
 }
 
 impl Unread {
-    /// What is said of it after the file's name; None where memory was refused, which stops the program.
+    /// What is said of it after the file's name; None if memory was denied, which stops the program.
     pub fn words(self) -> Option<&'static str> {
         match self {
             Unread::Missing => Some("cannot be read: no such file"),
@@ -64,7 +65,7 @@ impl Unread {
         }
     }
 
-    /// Whether it is only skipped where a folder is searched, so that it doesn't count as a file that isn't read.
+    /// Whether it is only skipped if a folder is searched, so that it doesn't count as a file that isn't read.
     pub fn is_skipped(self) -> bool
         ensures { (self ≡ Forbidden) ⊎ (self ≡ BadName) → result ≡ false }
     {
@@ -112,7 +113,8 @@ pub enum Unwritten {
 }
 
 impl Unwritten {
-    /// What is said of it after the file's name, and before that of a copy; None where memory was refused, which stops the program.
+    /// What is said of it after the file's name, and before that of a copy; None if memory was denied, which stops the
+    /// program.
     pub fn words(&self) -> Option<&'static str> {
         match self {
             Unwritten::Missing => Some("cannot be written: no such file"),
@@ -136,7 +138,7 @@ pub struct Listing {
     pub passed: Vec<Passed>,
 }
 
-/// What is passed over where a folder is searched.
+/// What is passed over when a folder is searched.
 #[derive(Drop)]
 pub struct Passed {
     /// Its name, with U+FFFD for what of it isn't UTF-8.
@@ -148,13 +150,15 @@ pub struct Passed {
 pub trait Texts {
     // What may be read under a name at a state of these, and the state after that.
     ghost gives: { Self → List ℕ → Result (Text Global) Unread → Self → Type 0 };
+    // What may come of putting a text under a name at a state of these, and the state after that.
+    ghost puts: { Self → List ℕ → List ℕ → Result (Unit {0}) Unwritten → Self → Type 0 };
 
     /// The text under this name; `-` is standard input.
     fn text(&mut self, alloc: Global, name: &str) -> Result<String, Unread>
         ensures { Self.gives self.old name.now result self.new };
 
-    /// What is found below the folder of this name, of all that is there or only of what isn't ignored; None where it isn't a
-    /// folder.
+    /// What is found below the folder of this name, of all that is there or only of what isn't ignored; None if it
+    /// isn't a folder.
     fn files_below(
         &mut self,
         alloc: Global,
@@ -162,9 +166,10 @@ pub trait Texts {
         takes_all: bool,
     ) -> Result<Option<Listing>, Unread>;
 
-    /// Puts this text in the place of the one under this name, which is no standard input. If that fails, the old one is there,
-    /// unless the error says where else it is.
-    fn replace(&mut self, alloc: Global, name: &str, text: &str) -> Result<(), Unwritten>;
+    /// Puts this text in the place of the one under this name, which is no standard input. If that fails, the old one
+    /// is there, unless the error says where else it is.
+    fn replace(&mut self, alloc: Global, name: &str, text: &str) -> Result<(), Unwritten>
+        ensures { Self.puts self.old name.now text.now result self.new };
 }
 
 /// The text that these bytes are.
@@ -175,7 +180,7 @@ pub fn text_of(bytes: Vec<u8>) -> Result<String, Unread> {
     }
 }
 
-/// Why there is no text where a system's call failed in this way.
+/// Why there is no text if a system's call failed in this way.
 pub fn reason(kind: ErrorKind) -> Unread {
     match kind {
         ErrorKind::NotFound => Unread::Missing,
@@ -202,6 +207,8 @@ pub struct Disk<'a> {
 impl Texts for Disk<'_> {
     // Nothing is known of what a machine's files hold.
     ghost gives = { λ _ _ _ _. Unit {0} };
+
+    ghost puts = { λ _ _ _ _ _. Unit {0} };
 
     fn text(&mut self, alloc: Global, name: &str) -> Result<String, Unread> {
         let read = if name == "-" {

@@ -32,9 +32,10 @@ enum Taken {
     Nothing,
 }
 
-/// The GraphQL files below the folder of this name, in the order of their names, and what can't be read there. Links to folders,
-/// and to what is outside, aren't followed. Unless the walk takes all, it goes into no hidden folder, none named `node_modules`,
-/// and takes nothing that the file `.gitignore` in the folder excludes. The error says why the folder itself can't be read.
+/// The GraphQL files below the folder of this name, in the order of their names, and what can't be read there. Links to
+/// folders, and to what is outside, aren't followed. Unless the walk takes all, it goes into no hidden folder, none
+/// named `node_modules`, and takes nothing that the file `.gitignore` in the folder excludes. The error says why the
+/// folder itself can't be read.
 pub fn walk(rt: &HostRuntime, alloc: Global, name: &str, takes_all: bool) -> io::Result<Listing> {
     let mut walker = Walker {
         rt,
@@ -56,7 +57,7 @@ pub fn walk(rt: &HostRuntime, alloc: Global, name: &str, takes_all: bool) -> io:
 // Adds the names of what is in a folder, a NUL after each.
 fn push_names(rt: &HostRuntime, folder: &str, names: &mut Vec<u8>) -> io::Result<()> {
     let mut dir = rt.open_dir(folder)?;
-    // A read gives whole names, and fails where it has no room for one.
+    // A read returns whole names, and fails if it has no room for one.
     let mut part = [0u8; PART];
     for _ in 0..u64::MAX {
         let length = dir.read(&mut part)?;
@@ -173,8 +174,8 @@ impl Walker<'_> {
         Ok(())
     }
 
-    // Nothing can be done with what has this name, which is no text. It is told unless it would be left out, also if it is no
-    // GraphQL file, since it may be a folder of some.
+    // Nothing can be done with what has this name, which is no text. It is reported unless it would be left out, also
+    // if it is no GraphQL file, since it may be a folder of some.
     fn take_bad_name(&mut self, folder: &str, name: &[u8]) -> Result<(), AllocError> {
         let name = String::from_utf8_lossy(self.alloc, name)?;
         self.pass_bad_name(folder, name.as_str())
@@ -247,7 +248,8 @@ impl Walker<'_> {
         is_ignored(self.alloc, self.patterns.as_str(), below, is_folder)
     }
 
-    // What has a GraphQL file's name is taken if it is a file, or a link to one in the folder; no link to a folder is taken.
+    // What has a GraphQL file's name is taken if it is a file, or a link to one in the folder; no link to a folder is
+    // taken.
     fn taken_file(&self, path: &str, metadata: &Metadata) -> Result<Taken, Unread> {
         if metadata.is_file() {
             return Ok(Taken::File);

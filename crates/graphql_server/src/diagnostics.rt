@@ -7,10 +7,9 @@ ghost use Rattle.graphql_parser.specs.notation.Limits.{default_limits};
 ghost use Rattle.text_edits.specs.Positions.{position_of};
 ghost use Rattle.graphql_server.specs.Ranges.{IsRange, IsDiagnosticOf};
 
-use crate::line_ends::with_line_feeds;
 use crate::messages::{Diagnostic, Location, Related};
 use graphql_parser::Limits;
-use graphql_texts::{Diagnosis, Language, diagnoses_of};
+use graphql_texts::{Diagnosis, Language, Other, diagnoses_of};
 use std::alloc::{AllocError, Global};
 use text_edits::{Document, Encoding, Range};
 
@@ -26,36 +25,11 @@ pub fn range_of(encoding: Encoding, document: &Document, start: usize, end: usiz
     }
 }
 
-/// What is wrong with a text that is read as this language: all that `gql check` finds of it with a line feed for each carriage return
-/// that ends a line alone, since a definition is looked for where a line begins.
-///
-/// It fails only where memory runs out.
-pub fn found_in(
-    alloc: Global,
-    language: Language,
-    document: &Document,
-) -> Result<Vec<Diagnosis>, AllocError>
-    ensures { IfOk result (λ found. found.items ≡ [] → IsGoodText true language default_limits document.now) }
-{
-    let text = document.text();
-    let found = diagnoses_of(alloc, language, text, Limits::default())?;
-    if found.is_empty() {
-        return Ok(found);
-    }
-    let Some(text) = with_line_feeds(alloc, text)? else {
-        return Ok(found);
-    };
-    let by_lines = diagnoses_of(alloc, language, text.as_str(), Limits::default())?;
-    if by_lines.is_empty() {
-        return Ok(found);
-    }
-    Ok(by_lines)
-}
-
 /// The diagnostics of a text that is read as this language, each with the range of what is refused, and, for a name that is defined
-/// twice, with the place of the other definition. They are made from this text alone, and there is none only where the text is good.
+/// twice, with the place of the other definition, or, for a bracket that isn't closed, with that of the bracket. They are made from
+/// this text alone, and there is none only if the text is good.
 ///
-/// It fails only where memory runs out.
+/// It fails only if memory runs out.
 pub fn diagnostics_of<'a>(
     alloc: Global,
     uri: &'a str,
@@ -66,20 +40,38 @@ pub fn diagnostics_of<'a>(
     ensures good { IfOk result (λ told. told.items ≡ [] → IsGoodText true language default_limits document.now) }
     ensures ranges { IfOk result (λ told. All (IsDiagnosticOf encoding document.now) told.items) }
 {
-    let found = found_in(alloc, language, document)?;
+    let text = document.text();
+    let found = diagnoses_of(alloc, language, text, Limits::default())?;
     let mut diagnostics = Vec::new(alloc);
     for diagnosis in found {
-        diagnostics.push(diagnostic_of(uri, encoding, document, diagnosis))?;
+        let other = other_of(alloc, language, text, &diagnosis)?;
+        diagnostics.push(diagnostic_of(uri, encoding, document, diagnosis, other))?;
     }
     Ok(diagnostics)
 }
 
-/// A diagnosis as a diagnostic of the text.
+/// The other place of a diagnosis of this text: that of the other definition, or of the bracket that isn't closed.
+///
+/// It fails only if memory runs out.
+pub fn other_of(
+    alloc: Global,
+    language: Language,
+    text: &str,
+    diagnosis: &Diagnosis,
+) -> Result<Option<Other>, AllocError> {
+    match diagnosis.other {
+        Some(other) => Ok(Some(other)),
+        None => diagnosis.opening(alloc, language, text, Limits::default()),
+    }
+}
+
+/// A diagnosis with its other place as a diagnostic of the text.
 pub fn diagnostic_of<'a>(
     uri: &'a str,
     encoding: Encoding,
     document: &Document,
     diagnosis: Diagnosis,
+    other: Option<Other>,
 ) -> Diagnostic<'a>
     ensures { IsDiagnosticOf encoding document.now result }
 {
@@ -87,8 +79,7 @@ pub fn diagnostic_of<'a>(
         span,
         status,
         message,
-        other,
-        fix: _,
+        ..
     } = diagnosis;
     let related = match other {
         None => None,

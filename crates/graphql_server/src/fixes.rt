@@ -1,50 +1,70 @@
 //! What mends a text (Language Server Protocol 3.17, "Code Action Request").
 
-use crate::diagnostics::{diagnostic_of, found_in, range_of};
+use crate::diagnostics::{diagnostic_of, other_of, range_of};
 use crate::line_ends::{line_end_of, with_line_end};
 use crate::messages::{write_diagnostic, write_edit};
 use crate::results::Asked;
 use crate::writer::JsonWriter;
-use graphql_texts::{Diagnosis, Fix};
+use graphql_parser::Limits;
+use graphql_texts::{Diagnosis, Fix, Language, Other, diagnoses_of};
 use std::alloc::AllocError;
 use text_edits::Range;
 
 /// The kind of all actions ("CodeActionKind").
 pub const QUICK_FIX: &str = "quickfix";
 
-/// Writes the quick fixes of the diagnostics that touch this range of the text.
+/// Writes the quick fixes of the diagnostics that touch this range of the text, and of those of brackets that aren't closed, if it
+/// touches the line of such a bracket.
 ///
-/// It fails only where memory runs out.
+/// It fails only if memory runs out.
 pub fn write_fixes(
     asked: Asked<'_>,
     range: Range,
     json: &mut JsonWriter,
 ) -> Result<(), AllocError> {
-    let start = asked.offset_of(range.start);
-    let end = asked.offset_of(range.end);
+    let language = asked.language()?;
     json.begin_list();
-    for diagnosis in found_in(asked.alloc, asked.language()?, &asked.text.document)? {
-        if diagnosis.span.start <= end && diagnosis.span.end >= start {
-            write_action(asked, diagnosis, json)?;
+    for diagnosis in diagnoses_of(asked.alloc, language, asked.text(), Limits::default())? {
+        let other = other_of(asked.alloc, language, asked.text(), &diagnosis)?;
+        if touches(asked, range, &diagnosis, other) {
+            write_action(asked, language, diagnosis, other, json)?;
         }
     }
     json.end_list();
     Ok(())
 }
 
-// Writes a "CodeAction" if this has a fix. Its "WorkspaceEdit" is of one text.
+// Whether a range touches a diagnosis, or the line of its other place.
+fn touches(asked: Asked<'_>, range: Range, diagnosis: &Diagnosis, other: Option<Other>) -> bool {
+    let touches_span = diagnosis.span.start <= asked.offset_of(range.end)
+        && diagnosis.span.end >= asked.offset_of(range.start);
+    touches_span
+        || match other {
+            Some(other) => {
+                let span = other.span;
+                let encoding = asked.client.encoding;
+                let place = range_of(encoding, &asked.text.document, span.start, span.end);
+                range.start.line <= place.end.line && range.end.line >= place.start.line
+            }
+            None => false,
+        }
+}
+
+// Writes a "CodeAction" if there is a fix for this. Its "WorkspaceEdit" is of one text.
 fn write_action(
     asked: Asked<'_>,
+    language: Language,
     diagnosis: Diagnosis,
+    other: Option<Other>,
     json: &mut JsonWriter,
 ) -> Result<(), AllocError> {
-    let mut diagnosis = diagnosis;
-    let Some(fix) = diagnosis.fix.take() else {
+    let limits = Limits::default();
+    let Some(fix) = diagnosis.fix(asked.alloc, language, asked.text(), limits)? else {
         return Ok(());
     };
     let document = &asked.text.document;
     let encoding = asked.client.encoding;
-    let diagnostic = diagnostic_of(asked.uri, encoding, document, diagnosis);
+    let diagnostic = diagnostic_of(asked.uri, encoding, document, diagnosis, other);
     json.begin_object();
     json.text_member("title", fix.title.as_str());
     json.text_member("kind", QUICK_FIX);

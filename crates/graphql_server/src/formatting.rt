@@ -12,7 +12,7 @@ use graphql_editor::{Span, Structure};
 use graphql_parser::{Limits, Memory};
 use graphql_texts::Language;
 use graphql_texts::check::error_of;
-use graphql_texts::errors::{Names, Source};
+use graphql_texts::errors::Source;
 use graphql_texts::rewriting::laid_out;
 use std::alloc::{AllocError, Global};
 use text_edits::Range;
@@ -95,10 +95,7 @@ fn write_definition(
 // The text laid out anew, if it is good.
 fn formatted(alloc: Global, language: Language, text: &str) -> Result<Option<String>, AllocError> {
     let source = Source {
-        names: Names {
-            shown: "",
-            name: "",
-        },
+        name: "",
         language,
         limits: Limits::default(),
         text,

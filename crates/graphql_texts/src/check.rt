@@ -9,8 +9,8 @@ use graphql_parser::{Error, Memory, check_query_to, check_schema_to};
 use graphql_report::Language;
 use std::alloc::AllocError;
 
-/// What is wrong with a text within these limits; None where nothing is, or where it lacks an operation and may. An error in
-/// its place says that memory was refused.
+/// What is wrong with a text within these limits; None if nothing is, or if only an operation is missing and may be. An
+/// error says that memory was denied.
 pub fn error_of<'a>(
     memory: &mut Memory,
     source: &Source<'a>,

@@ -1,8 +1,9 @@
-//! What closes the brackets that a definition leaves open.
+//! Which brackets of a definition aren't closed, and what closes them.
 //!
-//! A text is refused where a bracket isn't closed, or later: what follows may be taken for a part of the definition, as the keyword
-//! of the next one for the name of a field. So brackets are closed before the first line within a definition that begins as
-//! another one does, if the definition is whole then; and else before the refused token.
+//! A text is rejected where a bracket is missing, or later: what comes next may be taken for a part of the definition,
+//! as the keyword of the next one for the name of a field. So brackets are missing before the first line within a
+//! definition that begins as another one does, if the definition is whole with them and the text is then read past the
+//! rejected token; and else before that token.
 use crate::check::error_of;
 use crate::errors::Source;
 use crate::recovery::{begins_definition, end_of, stands_first};
@@ -22,31 +23,70 @@ pub struct Closing {
     pub brackets: String,
 }
 
-/// What closes the brackets that are open before the refused token of a text that was read from this offset on: all of them, where
-/// the definition is whole then, or the inmost one, where the refused token can follow then.
-pub fn closing_of(
+/// Brackets that are open and aren't closed.
+#[derive(Drop)]
+pub struct Missing {
+    // Where what closes them is missing.
+    gap: Gap,
+    // So many of those that are open there, the inmost first.
+    count: usize,
+}
+
+impl Missing {
+    /// Where the inmost of them stands, as a byte offset.
+    pub fn opening(&self) -> usize {
+        match self.gap.open.last() {
+            Some(inmost) => inmost.start,
+            None => self.gap.next,
+        }
+    }
+
+    /// What closes them.
+    pub fn closing(&self, alloc: Global, text: &str) -> Result<Closing, AllocError> {
+        closing_at(alloc, text, &self.gap, self.count)
+    }
+}
+
+/// The brackets that aren't closed, of a text that was read from this byte offset on and is rejected at this token: all
+/// that are open, if the definition is whole once they are closed, or the inmost one, if the rejected token can come
+/// next then. An error says that memory was denied.
+pub fn missing_of(
     alloc: Global,
     source: &Source<'_>,
     from: usize,
     token: &Token<'_>,
-) -> Result<Option<Closing>, AllocError> {
+) -> Result<Option<Missing>, AllocError> {
     let Gaps {
         suspected,
         refused: gap,
     } = gaps_of(alloc, source, from, token)?;
-    if let Some(gap) = suspected
-        && begins_another(alloc, source, &gap)?
-        && let Some(closing) = closing_all(alloc, source, &gap)?
+    if let Some(suspected) = suspected
+        && is_missing_before(alloc, source, &suspected, &gap, token)?
     {
-        return Ok(Some(closing));
+        return Ok(Some(all_of(suspected)));
     }
-    if gap.open.is_empty() {
-        return Ok(None);
+    match gap.open.last() {
+        // What closes it would be expected, and this token isn't.
+        Some(inmost) if token.text.starts_with(inmost.closes) => return Ok(None),
+        Some(_) => {}
+        None => return Ok(None),
     }
     if token.kind.is_end() || is_definition(source, token) {
-        return closing_all(alloc, source, &gap);
+        let is_whole = is_whole(alloc, source, &gap)?;
+        return Ok(if is_whole { Some(all_of(gap)) } else { None });
     }
-    closing_one(alloc, source, &gap, token)
+    let can_follow = can_follow(alloc, source, &gap, 1, token)?;
+    Ok(if can_follow {
+        Some(Missing { gap, count: 1 })
+    } else {
+        None
+    })
+}
+
+// All brackets that are open at a place.
+fn all_of(gap: Gap) -> Missing {
+    let count = gap.open.len();
+    Missing { gap, count }
 }
 
 // ---- places
@@ -55,8 +95,6 @@ pub fn closing_of(
 #[derive(Clone, Copy)]
 struct Open {
     start: usize,
-    // Its line in what was read.
-    line: usize,
     // What closes it.
     closes: char,
 }
@@ -68,20 +106,40 @@ struct Gap {
     definition: usize,
     // The brackets that are open there, the inmost last.
     open: Vec<Open>,
-    // Where the token before it ends, and the line on which that begins.
+    // Where the token before it begins and ends.
+    begin: usize,
     last: usize,
-    line: usize,
     // Where the token after it begins, and where the one after that ends.
     next: usize,
     after: usize,
 }
 
-// Where brackets may be closed.
+impl Gap {
+    // The same place in a definition that begins at this offset.
+    fn within(&self, alloc: Global, definition: usize) -> Result<Gap, AllocError> {
+        let mut open = Vec::new(alloc);
+        for bracket in &self.open {
+            if bracket.start >= definition {
+                open.push(*bracket)?;
+            }
+        }
+        Ok(Gap {
+            definition,
+            open,
+            begin: self.begin,
+            last: self.last,
+            next: self.next,
+            after: self.after,
+        })
+    }
+}
+
+// Where brackets may be missing.
 #[derive(Drop)]
 struct Gaps {
     // Before a line that begins as a definition does.
     suspected: Option<Gap>,
-    // Before the refused token.
+    // Before the rejected token.
     refused: Gap,
 }
 
@@ -96,7 +154,7 @@ struct Walk<'a> {
     suspected: Option<Gap>,
 }
 
-// The places before the refused token of a text that was read from this offset on.
+// The places before the rejected token of a text that was read from this offset on.
 fn gaps_of(
     alloc: Global,
     source: &Source<'_>,
@@ -110,8 +168,8 @@ fn gaps_of(
         gap: Gap {
             definition: from,
             open: Vec::new(alloc),
+            begin: from,
             last: from,
-            line: 1,
             next: token.start,
             after: end_of(token),
         },
@@ -150,17 +208,12 @@ impl Walk<'_> {
         }
         if self.gap.open.is_empty() {
             self.gap.definition = start;
-        } else if self.suspected.is_none() && !is_within(first, second) {
-            let mut open = Vec::with_capacity(alloc, self.gap.open.len())?;
-            open.extend_from_slice(self.gap.open.as_slice())?;
-            self.suspected = Some(Gap {
-                definition: self.gap.definition,
-                open,
-                last: self.gap.last,
-                line: self.gap.line,
-                next: start,
-                after: self.from.saturating_add(end_of(second)),
-            });
+        } else if self.suspected.is_none() && !is_within(rest, first, second) {
+            let definition = self.gap.definition;
+            let mut suspected = self.gap.within(alloc, definition)?;
+            suspected.next = start;
+            suspected.after = self.from.saturating_add(end_of(second));
+            self.suspected = Some(suspected);
         }
         Ok(())
     }
@@ -168,23 +221,10 @@ impl Walk<'_> {
     // Passes a token.
     fn pass(&mut self, token: &Token<'_>) -> Result<(), AllocError> {
         let start = self.from.saturating_add(token.start);
-        let line = token.pos.line;
         match token.text {
-            "{" => self.gap.open.push(Open {
-                start,
-                line,
-                closes: '}',
-            })?,
-            "(" => self.gap.open.push(Open {
-                start,
-                line,
-                closes: ')',
-            })?,
-            "[" => self.gap.open.push(Open {
-                start,
-                line,
-                closes: ']',
-            })?,
+            "{" => self.gap.open.push(Open { start, closes: '}' })?,
+            "(" => self.gap.open.push(Open { start, closes: ')' })?,
+            "[" => self.gap.open.push(Open { start, closes: ']' })?,
             "}" | ")" | "]" => {
                 self.gap.open.pop();
                 if self.gap.open.is_empty() {
@@ -193,16 +233,17 @@ impl Walk<'_> {
             }
             _ => {}
         }
+        self.gap.begin = start;
         self.gap.last = self.from.saturating_add(end_of(token));
-        self.gap.line = line;
         Ok(())
     }
 }
 
-// Whether a part of a definition may begin with these tokens though a definition does: with a brace, or with a keyword after which
-// the line ends.
-fn is_within(first: &Token<'_>, second: &Token<'_>) -> bool {
-    first.text == "{" || (first.kind.is_name() && first.pos.line != second.pos.line)
+// Whether a part of a definition may begin with these tokens though a definition does: with a brace, or with a keyword
+// after which the line ends. The first is where this rest of the text begins.
+fn is_within(rest: &str, first: &Token<'_>, second: &Token<'_>) -> bool {
+    let length = second.start.saturating_sub(first.start);
+    first.text == "{" || (first.kind.is_name() && !is_one_line(rest, 0, length))
 }
 
 // Whether a definition seems to begin at this token of a text.
@@ -221,7 +262,28 @@ fn is_definition(source: &Source<'_>, token: &Token<'_>) -> bool {
 
 // ---- what closes them
 
-// Whether a text may begin as the one after this place does, up to the end of the line.
+// Whether the brackets that are open before a line that begins as a definition does are missing there: that line may
+// begin a document, the definition before it is whole with them, and what begins with it is read past the rejected
+// token, before which the other place is; or up to the end of the text, with the brackets that are missing there too.
+fn is_missing_before(
+    alloc: Global,
+    source: &Source<'_>,
+    suspected: &Gap,
+    refused: &Gap,
+    token: &Token<'_>,
+) -> Result<bool, AllocError> {
+    if !begins_another(alloc, source, suspected)? || !is_whole(alloc, source, suspected)? {
+        return Ok(false);
+    }
+    let rest = refused.within(alloc, suspected.next)?;
+    if token.kind.is_end() {
+        is_whole(alloc, source, &rest)
+    } else {
+        can_follow(alloc, source, &rest, 0, token)
+    }
+}
+
+// Whether a document may begin as the text after this place does, up to the end of the line.
 fn begins_another(alloc: Global, source: &Source<'_>, gap: &Gap) -> Result<bool, AllocError> {
     let text = source.text;
     let end = match text.split_at_checked(gap.after) {
@@ -234,42 +296,14 @@ fn begins_another(alloc: Global, source: &Source<'_>, gap: &Gap) -> Result<bool,
     }
 }
 
-// What closes all brackets that are open at a place, if the definition is whole then.
-fn closing_all(
-    alloc: Global,
-    source: &Source<'_>,
-    gap: &Gap,
-) -> Result<Option<Closing>, AllocError> {
-    let closing = closing_at(alloc, source.text, gap, gap.open.len())?;
-    let Some(mended) = mended(alloc, source.text, gap, &closing)? else {
-        return Ok(None);
+// Whether the definition before this place is whole once all brackets are closed that are open there: a document, or
+// one but for a rule.
+fn is_whole(alloc: Global, source: &Source<'_>, gap: &Gap) -> Result<bool, AllocError> {
+    let mended = mended(alloc, source.text, gap, gap.open.len())?;
+    let read = Source {
+        text: mended.as_str(),
+        ..*source
     };
-    let is_whole = is_whole(alloc, source, mended.as_str())?;
-    Ok(if is_whole { Some(closing) } else { None })
-}
-
-// What closes the inmost bracket that is open at a place, if the refused token can follow then.
-fn closing_one(
-    alloc: Global,
-    source: &Source<'_>,
-    gap: &Gap,
-    token: &Token<'_>,
-) -> Result<Option<Closing>, AllocError> {
-    if matches!(token.kind, TokenKind::Fault) {
-        return Ok(None);
-    }
-    let closing = closing_at(alloc, source.text, gap, 1)?;
-    let Some(mut mended) = mended(alloc, source.text, gap, &closing)? else {
-        return Ok(None);
-    };
-    mended.push_str(token.text)?;
-    let can_follow = is_front(alloc, source, mended.as_str())?;
-    Ok(if can_follow { Some(closing) } else { None })
-}
-
-// Whether this text is a whole document, or one but for a rule, where it is read as the source is.
-fn is_whole(alloc: Global, source: &Source<'_>, text: &str) -> Result<bool, AllocError> {
-    let read = Source { text, ..*source };
     Ok(match error_of(&mut Memory::new(alloc), &read, true)? {
         Some(refused) => !matches!(
             refused.error,
@@ -279,7 +313,21 @@ fn is_whole(alloc: Global, source: &Source<'_>, text: &str) -> Result<bool, Allo
     })
 }
 
-// Whether a document may begin with this text, where it is read as the source is: whether no token before its end is refused.
+// Whether a token can come next once so many brackets are closed at a place.
+fn can_follow(
+    alloc: Global,
+    source: &Source<'_>,
+    gap: &Gap,
+    count: usize,
+    token: &Token<'_>,
+) -> Result<bool, AllocError> {
+    let mut mended = mended(alloc, source.text, gap, count)?;
+    mended.push_str(token.text)?;
+    is_front(alloc, source, mended.as_str())
+}
+
+// Whether a document may begin with this text, if it is read as the source is: whether no token before its end is
+// rejected.
 fn is_front(alloc: Global, source: &Source<'_>, text: &str) -> Result<bool, AllocError> {
     let read = Source { text, ..*source };
     match error_of(&mut Memory::new(alloc), &read, true)? {
@@ -291,37 +339,29 @@ fn is_front(alloc: Global, source: &Source<'_>, text: &str) -> Result<bool, Allo
     }
 }
 
-// The text of a definition up to a place, with what is inserted there.
-fn mended(
-    alloc: Global,
-    text: &str,
-    gap: &Gap,
-    closing: &Closing,
-) -> Result<Option<String>, AllocError> {
-    let parts = (
-        text.get(gap.definition..closing.offset),
-        text.get(closing.offset..gap.next),
-    );
-    let (Some(before), Some(after)) = parts else {
-        return Ok(None);
-    };
+// The definition up to a place, with so many brackets closed there.
+fn mended(alloc: Global, text: &str, gap: &Gap, count: usize) -> Result<String, AllocError> {
+    let closing = closing_at(alloc, text, gap, count)?;
+    let before = text.get(gap.definition..closing.offset).unwrap_or("");
+    let after = text.get(closing.offset..gap.next).unwrap_or("");
     let mut mended = String::from_str(alloc, before)?;
     mended.push_str(closing.new.as_str())?;
     mended.push_str(after)?;
-    Ok(Some(mended))
+    Ok(mended)
 }
 
-// What closes so many of the brackets that are open at a place, the inmost first. A bracket is closed in its line if that is where
-// the last token stands, and else in a line of its own, which begins as the one does in which the bracket stands.
+// What closes so many of the brackets that are open at a place, the inmost first. A bracket is closed in its line if
+// that is where the last token stands, and else in a line of its own, which begins as the one does in which the bracket
+// stands.
 fn closing_at(alloc: Global, text: &str, gap: &Gap, count: usize) -> Result<Closing, AllocError> {
     let mut closing = Closing {
         offset: gap.last,
         new: String::new(alloc),
         brackets: String::new(alloc),
     };
-    let mut line = gap.line;
+    let mut here = gap.begin;
     for open in gap.open.iter().rev().take(count) {
-        if open.line == line {
+        if is_one_line(text, open.start, here) {
             if open.closes == '}' {
                 closing.new.push(' ')?;
             }
@@ -331,8 +371,8 @@ fn closing_at(alloc: Global, text: &str, gap: &Gap, count: usize) -> Result<Clos
             }
             closing.new.push_str(line_end_at(text, closing.offset))?;
             closing.new.push_str(blanks_before(text, open.start))?;
-            line = open.line;
         }
+        here = open.start;
         closing.new.push(open.closes)?;
         closing.brackets.push(open.closes)?;
     }
@@ -352,9 +392,17 @@ fn end_of_line(text: &str, gap: &Gap) -> usize {
     }
 }
 
+// Whether no line ends between these offsets.
+fn is_one_line(text: &str, start: usize, end: usize) -> bool {
+    match text.get(start..end) {
+        Some(between) => !between.contains(['\n', '\r']),
+        None => true,
+    }
+}
+
 // How many bytes stand before the first end of a line.
 fn length_of_line(text: &str) -> usize {
-    match text.find(|c: char| c == '\n' || c == '\r') {
+    match text.find(['\n', '\r']) {
         Some(length) => length,
         None => text.len(),
     }
@@ -373,7 +421,7 @@ fn blanks_before(text: &str, offset: usize) -> &str {
     let Some((front, _)) = text.split_at_checked(offset) else {
         return "";
     };
-    let line = match front.rsplit_once('\n') {
+    let line = match front.rsplit_once(['\n', '\r']) {
         Some((_, line)) => line,
         None => front,
     };

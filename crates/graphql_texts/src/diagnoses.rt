@@ -1,20 +1,20 @@
 //! What is wrong with a text, as data: for an editor, which shows it in the text and can mend it there.
-ghost use Rattle.std.specs.Prelude.{◌≡◌, [], true, All, IfOk, IfSome};
+ghost use Rattle.std.specs.Prelude.{◌≡◌, ◌<◌, [], true, All, IfOk, IfSome, length};
 ghost use Rattle.graphql_texts.specs.checked.Diagnosed.{IsWithin, IsDiagnosisOf};
 ghost use Rattle.graphql_texts.specs.checked.Good.{IsGoodText};
 ghost use Rattle.graphql_report.specs.reports.Rests.{BeginsAt};
 
 use crate::check::error_of;
-use crate::closing::closing_of;
-use crate::errors::{MOST_FINDINGS, Mistake, Names, Source, first_error, next_error};
+use crate::closing::{Missing, missing_of};
+use crate::errors::{MOST_FINDINGS, Mistake, Refused, Source, first_error, next_error};
 use crate::recovery::end_of;
 use graphql_parser::lexer::{Token, TokenKind, Tokens};
 use graphql_parser::{Error, Limits, Memory, Pos};
 use graphql_report::{Finding, Language, error_offsets, finding_from};
 use std::alloc::{AllocError, Global};
 
-/// The byte offsets of a text between which something stands: the end is not before the start, and both are where a character
-/// begins, or the end of the text.
+/// The byte offsets between which a part of a text stands: the end is not before the start, and both are where a
+/// character begins, or the end of the text.
 #[derive(Clone, Copy, Debug, PartialEq, Eq)]
 pub struct Span {
     pub start: usize,
@@ -24,17 +24,17 @@ pub struct Span {
 /// One thing that is wrong with a text. (This project's own type.)
 #[derive(Drop)]
 pub struct Diagnosis {
-    /// Where it is: the refused token, its bad escape, or the words with which a definition begins. It is empty at the end of the
-    /// text.
+    /// Where it is: the rejected token, its bad escape, or the words with which a definition begins. It is empty at the
+    /// end of the text.
     pub span: Span,
     /// The name of the error's status, as C has it, without `GRAPHQL_PARSER_`.
     pub status: &'static str,
     /// What the first line of a report says after the place.
     pub message: String,
-    /// The other place, of an error that has two.
+    /// The other place, of an error about two definitions.
     pub other: Option<Other>,
-    /// What mends it, where that is known.
-    pub fix: Option<Fix>,
+    // What may mend it.
+    repair: Repair,
 }
 
 /// The other place of an error.
@@ -42,7 +42,7 @@ pub struct Diagnosis {
 pub struct Other {
     /// Where it is.
     pub span: Span,
-    /// What a report says of it.
+    /// What is said of it.
     pub message: &'static str,
 }
 
@@ -51,17 +51,31 @@ pub struct Other {
 pub struct Fix {
     /// What it does, for people.
     pub title: String,
-    /// What it replaces; where that is empty it is an insertion.
+    /// What it replaces; an insertion if that is empty.
     pub span: Span,
     /// What it puts there.
     pub new: String,
 }
 
-/// All that is wrong with a text that is read as this language within these limits, as `gql check` tells it: in the order of the
-/// text, [`MOST_FINDINGS`] at most. There is nothing only where the text is good; a request may lack an operation. (This project's
-/// own call.)
+// What may mend a text.
+#[derive(Clone, Copy)]
+enum Repair {
+    // Nothing is known.
+    None,
+    // This word in place of the rejected one.
+    Word(&'static str),
+    // Brackets, if some are missing before the rejected token, of a text that was read from this offset on.
+    Brackets(usize),
+}
+
+// What is said of a bracket that isn't closed.
+const NOT_CLOSED: &str = "this bracket is not closed";
+
+/// All that is wrong with a text that is read as this language within these limits, as `gql check` reports it: in the
+/// order of the text, [`MOST_FINDINGS`] at most. There is nothing only if the text is good; a request may lack an
+/// operation. (This project's own call.)
 ///
-/// An error says that memory was refused.
+/// An error says that memory was denied.
 pub fn diagnoses_of(
     alloc: Global,
     language: Language,
@@ -71,32 +85,133 @@ pub fn diagnoses_of(
     ensures good { IfOk result (λ found. found.items ≡ [] → IsGoodText true language limits text.now) }
     ensures within { IfOk result (λ found. All (IsDiagnosisOf text.now) found.items) }
 {
+    let source = source_of(language, text, limits);
+    match error_of(&mut Memory::new(alloc), &source, true)? {
+        Some(refused) => Ok(diagnoses_from(alloc, &source, refused)?),
+        None => Ok(Vec::new(alloc)),
+    }
+}
+
+/// The same of a text of which this is known to be wrong first.
+pub fn diagnoses_from<'a>(
+    alloc: Global,
+    source: &Source<'a>,
+    refused: Refused<'a>,
+) -> Result<Vec<Diagnosis>, AllocError>
+    ensures some { IfOk result (λ found. 0 < length found.items) }
+    ensures within { IfOk result (λ found. All (IsDiagnosisOf source.now.text.now) found.items) }
+{
     let mut found = Vec::new(alloc);
-    let source = Source {
-        names: Names {
-            shown: "",
-            name: "",
-        },
-        language,
-        limits,
-        text,
-    };
-    let Some(refused) = error_of(&mut Memory::new(alloc), &source, true)? else {
-        return Ok(found);
-    };
-    let mut mistake = first_error(&source, refused);
-    found.push(diagnosis_of(alloc, &source, &mistake)?)?;
+    let mut mistake = first_error(source, refused);
+    found.push(diagnosis_of(alloc, source, &mistake)?)?;
     for _ in 1..MOST_FINDINGS {
-        let Some(next) = next_error(alloc, &source, &mistake)? else {
+        let Some(next) = next_error(alloc, source, &mistake)? else {
             break;
         };
-        found.push(diagnosis_of(alloc, &source, &next)?)?;
+        found.push(diagnosis_of(alloc, source, &next)?)?;
         mistake = next;
     }
     Ok(found)
 }
 
-// What is told of an error of a text.
+// A text of no file.
+fn source_of(language: Language, text: &str, limits: Limits) -> Source<'_>
+    ensures text { result.text.now ≡ text.now }
+    ensures language { (result.language ≡ language) × (result.limits ≡ limits) }
+{
+    Source {
+        name: "",
+        language,
+        limits,
+        text,
+    }
+}
+
+impl Diagnosis {
+    /// Where the bracket was opened that isn't closed, if that is what is wrong, of the text that this is a diagnosis
+    /// of.
+    ///
+    /// An error says that memory was denied.
+    pub fn opening(
+        &self,
+        alloc: Global,
+        language: Language,
+        text: &str,
+        limits: Limits,
+    ) -> Result<Option<Other>, AllocError>
+        ensures { IfOk result (λ other. IfSome other (λ other. IsWithin text.now other.span)) }
+    {
+        let source = source_of(language, text, limits);
+        let Some(missing) = self.missing(alloc, &source)? else {
+            return Ok(None);
+        };
+        let start = missing.opening();
+        Ok(Some(Other {
+            span: span_at(text, start, start.saturating_add(1)),
+            message: NOT_CLOSED,
+        }))
+    }
+
+    /// What mends the text that this is a diagnosis of, if it is known: the word that may have been meant, or what
+    /// closes the brackets that are open.
+    ///
+    /// An error says that memory was denied.
+    pub fn fix(
+        &self,
+        alloc: Global,
+        language: Language,
+        text: &str,
+        limits: Limits,
+    ) -> Result<Option<Fix>, AllocError>
+        ensures { IfOk result (λ fix. IfSome fix (λ fix. IsWithin text.now fix.span)) }
+    {
+        if let Repair::Word(word) = self.repair {
+            return Ok(Some(Fix {
+                title: format!(in alloc; "Change to \"{word}\"")?,
+                span: span_at(text, self.span.start, self.span.end),
+                new: String::from_str(alloc, word)?,
+            }));
+        }
+        let source = source_of(language, text, limits);
+        match self.missing(alloc, &source)? {
+            Some(missing) => Ok(Some(insertion_of(alloc, text, &missing)?)),
+            None => Ok(None),
+        }
+    }
+
+    // The brackets that aren't closed, if that is what is wrong with the text.
+    fn missing(&self, alloc: Global, source: &Source<'_>) -> Result<Option<Missing>, AllocError> {
+        let Repair::Brackets(from) = self.repair else {
+            return Ok(None);
+        };
+        match token_at(source.text, self.span.start) {
+            Some(token) => missing_of(alloc, source, from, &token),
+            None => Ok(None),
+        }
+    }
+}
+
+// The token that begins at this offset of a text.
+fn token_at(text: &str, start: usize) -> Option<Token<'_>> {
+    let (_, rest) = text.split_at_checked(start)?;
+    let token = Tokens::new(rest).next()?;
+    Some(Token { start, ..token })
+}
+
+// What closes brackets.
+fn insertion_of(alloc: Global, text: &str, missing: &Missing) -> Result<Fix, AllocError>
+    ensures { IfOk result (λ fix. IsWithin text.now fix.span) }
+{
+    let closing = missing.closing(alloc, text)?;
+    let brackets = closing.brackets.as_str();
+    Ok(Fix {
+        title: format!(in alloc; "Insert \"{brackets}\"")?,
+        span: span_at(text, closing.offset, closing.offset),
+        new: closing.new,
+    })
+}
+
+// What is wrong by an error of a text.
 fn diagnosis_of(
     alloc: Global,
     source: &Source<'_>,
@@ -109,14 +224,27 @@ fn diagnosis_of(
     let error = &mistake.error;
     let finding = finding_from(alloc, told.language, told.text, &read, told.limits, error)?;
     let marks = marks_of(alloc, source, &told, mistake, finding.place)?;
-    let fix = fix_of(alloc, source, mistake, &finding)?;
+    let repair = repair_of(mistake, &finding);
     Ok(Diagnosis {
         span: marks.span,
         status: finding.status,
         message: finding.message,
         other: marks.other,
-        fix,
+        repair,
     })
+}
+
+// What may mend an error.
+fn repair_of(mistake: &Mistake<'_>, finding: &Finding) -> Repair {
+    match (mistake.known.token, finding.meant) {
+        (Some(_), Some(word)) => Repair::Word(word),
+        (Some(token), None)
+            if matches!(mistake.error, Error::Syntax { .. })
+                && !matches!(token.kind, TokenKind::Fault) => {
+            Repair::Brackets(mistake.known.from.offset)
+        }
+        _ => Repair::None,
+    }
 }
 
 // Where an error is shown.
@@ -126,7 +254,7 @@ struct Marks {
     other: Option<Other>,
 }
 
-// Where an error of a text is shown that a report tells at this place.
+// Where an error of a text is shown whose report has this place.
 fn marks_of(
     alloc: Global,
     source: &Source<'_>,
@@ -146,7 +274,7 @@ fn marks_of(
     }
 }
 
-/// What stands between these offsets of a text; its end where they are none.
+/// What stands between these byte offsets of a text; its end if they are none of its.
 pub fn span_at(text: &str, start: usize, end: usize) -> Span
     ensures { IsWithin text.now result }
 {
@@ -212,7 +340,7 @@ fn span_of_words(text: &str, start: usize) -> Span
 
 // ---- tokens
 
-// A refused token, or its bad escape, if that is at the place that is told.
+// A rejected token, or its bad escape, if that is at the place of the report.
 fn span_of_token(text: &str, token: &Token<'_>, place: Option<Pos>) -> Span
     ensures { IsWithin text.now result }
 {
@@ -244,8 +372,8 @@ fn length_of_first(text: &str, count: usize) -> usize {
     text.len().saturating_sub(rest.as_str().len())
 }
 
-// How many bytes are shown of what begins no token: the quotes of a block string that isn't closed, the rest of the line of a
-// string, an escape, what looks like a number or a spread, or one character.
+// How many bytes are shown of what begins no token: the quotes of a block string that isn't closed, the rest of the
+// line of a string, an escape, what looks like a number or a spread, or one character.
 fn length_of_fault(fault: &str) -> usize {
     if fault.starts_with("\"\"\"") {
         return 3;
@@ -282,39 +410,4 @@ fn length_of_escape(digits: &str) -> usize {
 // How many bytes of a text stand before this rest of it.
 fn length_before(text: &str, rest: &str) -> usize {
     text.len().saturating_sub(rest.len())
-}
-
-// ---- fixes
-
-// What mends an error of a refused token: the word that may have been meant, or what closes the brackets that are open.
-fn fix_of(
-    alloc: Global,
-    source: &Source<'_>,
-    mistake: &Mistake<'_>,
-    finding: &Finding,
-) -> Result<Option<Fix>, AllocError>
-    ensures { IfOk result (λ fix. IfSome fix (λ fix. IsWithin source.now.text.now fix.span)) }
-{
-    let Some(token) = &mistake.known.token else {
-        return Ok(None);
-    };
-    if let Some(word) = finding.meant {
-        return Ok(Some(Fix {
-            title: format!(in alloc; "Change to \"{word}\"")?,
-            span: span_at(source.text, token.start, end_of(token)),
-            new: String::from_str(alloc, word)?,
-        }));
-    }
-    if !matches!(mistake.error, Error::Syntax { .. }) {
-        return Ok(None);
-    }
-    let Some(closing) = closing_of(alloc, source, mistake.known.from.offset, token)? else {
-        return Ok(None);
-    };
-    let brackets = closing.brackets.as_str();
-    Ok(Some(Fix {
-        title: format!(in alloc; "Insert \"{brackets}\"")?,
-        span: span_at(source.text, closing.offset, closing.offset),
-        new: closing.new,
-    }))
 }

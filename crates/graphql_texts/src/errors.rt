@@ -1,13 +1,14 @@
-//! The errors of a text that are told, one after another: its first, and then the first of each definition after it.
+//! The errors of a text that are reported, one after another: its first, and then the first of each definition after
+//! it.
 //!
-//! A refused text is read again from the next definition on, and so on. What the definitions before the refused one lack, or
-//! have twice, is no matter then, and neither is that an operation without a name isn't alone: a brace at the beginning of a
-//! line may belong to a definition that is refused before it.
+//! A rejected text is read again from the next definition on, and so on. What is missing in the definitions before the
+//! rejected one, or is there twice, is no matter then, and neither is that an operation without a name isn't alone: a
+//! brace at the beginning of a line may belong to a definition that is rejected before it.
 //!
-//! Where nothing closes a block string, an earlier one may be open that ends where that one was to begin, and what stands in
-//! strings and between them may be taken for each other up to there. So it is told where the open one probably begins, and no
-//! definition is looked for before the line after the one that nothing closes. What is read after a later error was searched
-//! for such a string at the first.
+//! If nothing closes a block string, an earlier one may be open that ends where that one was to begin, and what stands
+//! in strings and between them may be taken for each other up to there. So the report says where the open one probably
+//! begins, and no definition is looked for before the line after the one that nothing closes. What is read after a
+//! later error was searched for such a string at the first.
 ghost use Rattle.std.specs.Prelude.{◌≡◌, IfSome, IfOk};
 ghost use Rattle.graphql_report.specs.reports.Rests.{BeginsAt};
 
@@ -19,43 +20,36 @@ use graphql_parser::{Error, Limits, Memory, Pos};
 use graphql_report::{Language, ReadFrom, ReadUpTo};
 use std::alloc::{AllocError, Global};
 
-/// So many errors of a text are told at most.
+/// So many errors of a text are reported at most.
 pub const MOST_FINDINGS: usize = 100;
 
-/// The names of a file: the one that people are told, and the one that programs are told.
-#[derive(Clone, Copy)]
-pub struct Names<'a> {
-    pub shown: &'a str,
-    pub name: &'a str,
-}
-
-/// A text that is read: of which file, as what, and how deep it may nest.
+/// A text that is read: of a file of which name, as what, and how deep it may nest.
 #[derive(Clone, Copy)]
 pub struct Source<'a> {
-    pub names: Names<'a>,
+    pub name: &'a str,
     pub language: Language,
     pub limits: Limits,
     pub text: &'a str,
 }
 
-/// What is wrong with a text: the error, and the token at which the text is refused, if it is refused at one.
+/// What is wrong with a text: the error, and the token at which the text is rejected, if it is rejected at one.
 #[derive(Drop)]
 pub struct Refused<'a> {
     pub error: Error,
     pub token: Option<Token<'a>>,
 }
 
-/// An error of a text that is told.
+/// An error of a text that is reported.
 #[derive(Drop)]
 pub struct Mistake<'a> {
     /// The error. Its places are those in the text.
     pub error: Error,
     /// What is known of the reading of the text that ended in it.
     pub known: ReadUpTo<'a>,
-    /// No definition begins before this offset that was not read; None where no later one is read.
+    /// No definition begins before this byte offset that was not read; None if no later one is read.
     pub passed: Option<usize>,
-    /// Where the report is one of a copy of the text: the text from where that reading began, after a line feed for each line
-    /// before it.
+    /// If the report is one of a copy of the text: the text from where that reading began, after a line feed for each
+    /// line before it.
     pub copy: Option<String>,
 }
 
@@ -80,7 +74,7 @@ pub fn first_error<'a>(source: &Source<'a>, refused: Refused<'a>) -> Mistake<'a>
     }
 }
 
-/// The error of a text after this one of its errors, if there is one. An error in its place says that memory was refused.
+/// The error of a text after this one of its errors, if there is one. An error says that memory was denied.
 pub fn next_error<'a>(
     alloc: Global,
     source: &Source<'a>,
@@ -133,8 +127,8 @@ impl<'a> Mistake<'a> {
 }
 
 impl<'a> Source<'a> {
-    // The error of the text from there on, in which this is wrong. Places are counted from the beginning of what a report is of, and
-    // no more is counted than that: so it is one of a copy, unless it can be one of the text.
+    // The error of the text from there on, in which this is wrong. Places are counted from the beginning of what a
+    // report is of, and no more is counted than that: so it is one of a copy, unless it can be one of the text.
     fn mistake(
         &self,
         alloc: Global,
@@ -160,7 +154,7 @@ impl<'a> Source<'a> {
         Ok(mistake)
     }
 
-    // What is wrong with a copy of a part of the text, if it is to be told.
+    // What is wrong with a copy of a part of the text, if it is to be reported.
     fn error_of_copy(&self, alloc: Global, copy: &str) -> Result<Option<Error>, AllocError> {
         let source = Source {
             text: copy,
@@ -172,8 +166,8 @@ impl<'a> Source<'a> {
         }
     }
 
-    // What is wrong with the text from there on, if it is to be told. The place of a refused token, and its offset, are those in
-    // the whole text.
+    // What is wrong with the text from there on, if it is to be reported. The place of a rejected token, and its
+    // offset, are those in the whole text.
     fn refused_from(
         &self,
         alloc: Global,
@@ -203,15 +197,16 @@ impl<'a> Source<'a> {
         Ok(Some(Refused { error, token }))
     }
 
-    /// The reading of the text from its beginning on, up to the token that is refused.
+    /// The reading of the text from its beginning on, up to the token that is rejected. An error says that memory was
+    /// denied.
     pub fn refused_first(&self, alloc: Global, error: &Error) -> Result<ReadUpTo<'a>, AllocError>
         ensures { IfOk result (λ read. BeginsAt self.now.text.now read.from) }
     {
         ReadUpTo::refused(alloc, self.language, self.text, self.limits, error)
     }
 
-    // Whether the error can be told without a copy of the rest of the text, from whose beginning a report counts its places: so
-    // can a refused token, if it is no string in which a bad escape may stand.
+    // Whether the error can be reported without a copy of the rest of the text, from whose beginning a report counts
+    // its places: so can a rejected token, if it is no string in which a bad escape may stand.
     fn is_told_in_place(&self, error: &Error, token: Option<Token<'_>>) -> bool {
         let Some(token) = token else {
             return false;
@@ -224,8 +219,8 @@ impl<'a> Source<'a> {
         matches!(error, Error::Syntax { .. }) && !may_have_escape
     }
 
-    // Where the block string probably begins that isn't closed, if that isn't the refused token; `last` is the one that nothing
-    // closes.
+    // Where the block string probably begins that isn't closed, if that isn't the rejected token; `last` is the one
+    // that nothing closes.
     fn opening(&self, token: &Token<'_>, last: usize) -> Option<Pos> {
         let start = probable_opening(self.language, self.text, token.start).unwrap_or(last);
         let (front, _) = self.text.split_at_checked(start)?;
@@ -235,7 +230,7 @@ impl<'a> Source<'a> {
         Some(PositionCalculator::new(front).step(front.len()))
     }
 
-    // Where a text is read next that was read from there on and passed up to this offset, if a token was refused.
+    // Where a text is read next that was read from there on and passed up to this offset, if a token was rejected.
     fn next_after(&self, from: ReadFrom, passed: Option<usize>) -> Option<ReadFrom>
         requires { BeginsAt self.now.text.now from }
         ensures { IfSome result (λ from. BeginsAt self.now.text.now from) }
@@ -245,7 +240,7 @@ impl<'a> Source<'a> {
     }
 }
 
-// The reading of a text from there on, up to the token at which it is refused.
+// The reading of a text from there on, up to the token at which it is rejected.
 fn read_up_to<'a>(from: ReadFrom, token: Option<Token<'a>>) -> ReadUpTo<'a>
     ensures { result.from ≡ from }
 {

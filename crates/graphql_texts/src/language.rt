@@ -27,7 +27,8 @@ const SCHEMA_KEYWORDS: [&str; 9] = [
 // A word with more characters is no misspelled keyword.
 const LONGEST_WORD: usize = 15;
 
-/// What a text is read as: by the option, else by the extension of its file, else as the text tells itself.
+/// What a text is read as: by the option, else by the extension of its file, else by its own first words. An error
+/// says that memory was denied.
 pub fn read_as(
     alloc: Global,
     option: Option<Language>,
@@ -55,7 +56,7 @@ fn language_said(option: Option<Language>, file: &str) -> Option<Language>
     }
 }
 
-// Whether a file of this name is a schema file. Other extensions, as `.graphql`, tell nothing.
+// Whether a file of this name is a schema file. Other extensions, as `.graphql`, say nothing.
 fn is_schema_file(name: &str) -> bool
     ensures { result ≡ is_schema_file name.now }
 {
@@ -63,8 +64,8 @@ fn is_schema_file(name: &str) -> bool
 }
 
 // The language whose parser reads the text furthest. No token begins a document of both, so it is the one that the first
-// token begins; the other is refused there. Where it begins neither, both are refused there. Then the keyword tells that
-// the first word is most like, and else the first keyword outside of all braces; and where there is none, it is a request.
+// token begins; the other is rejected there. If it begins neither, both are rejected there. Then the keyword decides that
+// the first word is most like, and else the first keyword outside of all braces; and if there is none, it is a request.
 fn language_of(alloc: Global, text: &str) -> Result<Language, AllocError>
     ensures { IfOk result (λ language. IsFurthest language text.now) }
 {
@@ -81,7 +82,8 @@ fn language_of(alloc: Global, text: &str) -> Result<Language, AllocError>
     Ok(begun_later(tokens).unwrap_or(Language::Requests))
 }
 
-// The language whose documents this token begins. A description that isn't ended is a fault, and begins one all the same.
+// The language whose documents this token begins. A description that isn't ended is a fault, and begins one all the
+// same.
 fn begun_by(text: &str, first: &Token<'_>) -> Option<Language>
     ensures { (language : Lang) →
         language_begun first.now.kind first.now.text.now ≡ Some language → result ≡ Some language }

@@ -1,17 +1,17 @@
-//! Where checking goes on after a token is refused: at the next line that begins with a definition.
+//! Where checking goes on after a token is rejected: at the next line that begins with a definition.
 use crate::language::language_of_keyword;
 use graphql_parser::lexer::{Token, TokenKind, Tokens};
 use graphql_report::Language;
 use std::alloc::{AllocError, Global};
 
-/// Where the next definition begins, at this offset or after it: at the first token that stands at the beginning of a line
-/// and begins a definition of this language. What is inside of a block string is no token, so it begins none.
+/// Where the next definition begins, at this offset or after it: at the first token that stands at the beginning of a
+/// line and begins a definition of this language. What is inside of a block string is no token, so it begins none.
 pub fn next_definition(language: Language, text: &str, from: usize) -> Option<usize> {
     searched(text, from, |start| look_from(language, text, start))
 }
 
-/// The text from this offset on, after a line feed for each one before it: so each place in it is that in the text, if a
-/// line begins at the offset.
+/// The text from this offset on, after a line feed for each one before it: so each place in it is that in the text, if
+/// a line begins at the offset.
 pub fn rest_at(alloc: Global, text: &str, offset: usize) -> Result<Option<String>, AllocError> {
     let Some((front, back)) = text.split_at_checked(offset) else {
         return Ok(None);
@@ -35,8 +35,8 @@ enum Search {
     Ended,
 }
 
-// Where a search that begins at an offset finds what it looks for, of one that begins at this offset, and then in the next line
-// after each place where no token begins.
+// Where a search that begins at an offset finds what it looks for, of one that begins at this offset, and then in the
+// next line after each place where no token begins.
 fn searched<F: Fn(usize) -> Search>(text: &str, from: usize, look: F) -> Option<usize>
     requires { F.IsAlwaysCallable look }
 {
@@ -73,17 +73,17 @@ fn look_from(language: Language, text: &str, from: usize) -> Search {
     Search::Ended
 }
 
-/// Whether this offset of the second part of a text is where a line begins.
+/// Whether this offset of the second part of a text is where a line begins, as it does after a carriage return alone.
 pub fn stands_first(front: &str, rest: &str, offset: usize) -> bool {
     match rest.split_at_checked(offset) {
-        Some(("", _)) => front.is_empty() || front.ends_with('\n'),
-        Some((before, _)) => before.ends_with('\n'),
+        Some(("", _)) => front.is_empty() || front.ends_with(['\n', '\r']),
+        Some((before, _)) => before.ends_with(['\n', '\r']),
         None => false,
     }
 }
 
-/// Whether a definition begins with these two tokens: a keyword, which is no field's name, as the one before a colon is; a
-/// brace, in a request; a description and a keyword, in a schema file.
+/// Whether a definition begins with these two tokens: a keyword, which is no field's name, as the one before a colon
+/// is; a brace, in a request; a description and a keyword, in a schema file.
 pub fn begins_definition(language: Language, first: &Token<'_>, second: &Token<'_>) -> bool {
     let of_schemas = language == Language::Schemas;
     match first.kind {
@@ -106,14 +106,14 @@ fn is_keyword(language: Language, token: &Token<'_>) -> bool {
     token.kind.is_name() && language_of_keyword(token.text) == Some(language)
 }
 
-/// Where the block string begins that nothing closes, of a text that is read from this offset on, and in the next line after
-/// each place where no token begins.
+/// Where the block string begins that nothing closes, of a text that is read from this offset on, and in the next line
+/// after each place where no token begins.
 pub fn unclosed_string(text: &str, from: usize) -> Option<usize> {
     searched(text, from, |start| look_for_quotes(text, start))
 }
 
-// Looks at the tokens from this offset on for a block string that isn't closed: none begins where a token is, and three quotes at
-// which none begins are those of such a string.
+// Looks at the tokens from this offset on for a block string that isn't closed: none begins where a token is, and three
+// quotes at which none begins are those of such a string.
 fn look_for_quotes(text: &str, from: usize) -> Search {
     let Some((_, rest)) = text.split_at_checked(from) else {
         return Search::Ended;
@@ -130,8 +130,9 @@ fn look_for_quotes(text: &str, from: usize) -> Search {
     Search::Ended
 }
 
-/// Where the block string probably begins that isn't closed, of a text that was refused at `refused`. Such a string ends where
-/// the next one was to begin, with a definition in it, or with the first words of that one after it, which are refused.
+/// Where the block string probably begins that isn't closed, of a text that was rejected at the offset `refused`. Such
+/// a string ends where the next one was to begin, with a definition in it, or with the first words of that one after
+/// it, which are rejected.
 pub fn probable_opening(language: Language, text: &str, refused: usize) -> Option<usize> {
     searched(
         text,
@@ -172,7 +173,7 @@ fn holds_definition(language: Language, text: &str, start: usize, end: usize) ->
     }
 }
 
-// Whether only words stand between the end of a block string and the refused token, of which the first is no keyword.
+// Whether only words stand between the end of a block string and the rejected token, of which the first is no keyword.
 fn leads_to(language: Language, text: &str, end: usize, refused: usize) -> bool {
     let Some(words) = text.get(end..refused) else {
         return false;
@@ -194,6 +195,6 @@ const QUOTES: &str = "\"\"\"";
 // Where the line after this offset begins, if there is one.
 fn next_line(text: &str, offset: usize) -> Option<usize> {
     let (_, rest) = text.split_at_checked(offset)?;
-    let (_, after) = rest.split_once('\n')?;
+    let (_, after) = rest.split_once(['\n', '\r'])?;
     Some(text.len().saturating_sub(after.len()))
 }

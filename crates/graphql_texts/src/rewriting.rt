@@ -1,5 +1,6 @@
-//! One text written anew: laid out, minified, or its tree as text.
+//! One text written anew: laid out, minified, or its tree as text or as JSON.
 ghost use Rattle.std.specs.Prelude.{true, IfOk, string_bytes};
+ghost use Rattle.std.specs.Str.{IsUtf8};
 ghost use Rattle.graphql_layout.specs.texts.LaidOut.{IsLaidOut};
 ghost use Rattle.graphql_layout.specs.texts.Minified.{IsMinified};
 ghost use Rattle.graphql_parser.specs.requests.Documents.{document_of as request_of};
@@ -10,6 +11,7 @@ ghost use Rattle.graphql_texts.specs.checked.Good.{IsGoodText};
 ghost use Rattle.graphql_texts.specs.checked.Rewritten.{MeanTheSameAs, Prints, PrintsAs};
 
 use crate::errors::Source;
+use graphql_json::{Places, request_json, schema_json};
 use graphql_layout::line_ends::LineEnd;
 use graphql_layout::{format, minify};
 use graphql_parser::{Error, Limits, parse_query_limited, parse_schema_limited};
@@ -76,4 +78,34 @@ fn printed_schema(alloc: Global, text: &str, limits: Limits) -> Result<String, E
     let mut printed = print_schema(alloc, &document)?;
     printed.push('\n')?;
     Ok(printed)
+}
+
+/// The tree of this source as JSON, with a line feed at its end, and with the place of each node that has one, if that
+/// is asked for. An error is that of the parse.
+pub fn tree_line(alloc: Global, source: &Source<'_>, has_places: bool) -> Result<String, Error> {
+    let places = if has_places {
+        Places::Written
+    } else {
+        Places::LeftOut
+    };
+    let json = tree_json(alloc, source, places)?;
+    let mut line = String::from_utf8(json).unwrap();
+    line.push('\n')?;
+    Ok(line)
+}
+
+// The tree of a text as JSON.
+fn tree_json(alloc: Global, source: &Source<'_>, places: Places) -> Result<Vec<u8>, Error>
+    ensures { IfOk result (λ json. IsUtf8 json.items) }
+{
+    match source.language {
+        Language::Requests => {
+            let document = parse_query_limited(alloc, source.text, source.limits)?;
+            Ok(request_json(alloc, &document, places)?)
+        }
+        Language::Schemas => {
+            let document = parse_schema_limited(alloc, source.text, source.limits)?;
+            Ok(schema_json(alloc, &document, places)?)
+        }
+    }
 }

@@ -25,7 +25,7 @@ IsBlank text = (tokens : List Token) → IsCutInto text tokens → AreTheEnd tok
 abbrev pub IsGoodFile : Option Language → Bool → Limits → List ℕ → List ℕ → Type 0
 IsGoodFile option fragments limits name text = (language : Language) × IsReadAs option name language × IsGoodText fragments language limits text
 
--- There is a text, and it is good; or blank, where requests may hold fragments alone.
+-- There is a text, and it is good; or blank, if requests may hold fragments alone.
 abbrev pub IsGood : Option Language → Bool → Limits → List ℕ → Result (String Global) Unread → Type 0
 IsGood option fragments limits name read = IsOkAnd read (λ text. IsGoodFile option fragments limits name (string_bytes text) ⊎ ((fragments ≡ true) × IsBlank (string_bytes text)))
 

@@ -13,8 +13,8 @@ takes_value word = bytes_eq word (codes "--limits") || bytes_eq word (codes "--m
 abbrev pub said_after : Option Language → List ℕ → Option Language
 said_after said word = if bytes_eq word (codes "--query") then Some Requests else (if bytes_eq word (codes "--schema") then Some Schemas else said)
 
--- The language that these words say, and the last of them where several do; where none does, that which was said before
--- them. Those after the word -- are files. `is_value` tells whether the first one is the value of the word before it.
+-- The language that these words say, and the last of them if several do; if none does, that which was said before
+-- them. Those after the word -- are files. `is_value` says whether the first one is the value of the word before it.
 abbrev pub language_of_options : Bool → Option Language → List (List ℕ) → Option Language
 language_of_options is_value said [] = said
 language_of_options true said (word ∷ words) = language_of_options false said words

@@ -11,8 +11,7 @@ pub record IsWithin (text : List ℕ) (span : Span) : Type 0 where
   pub ends : IsCharBoundary text span.end
   pub ordered : span.start ≤ span.end
 
--- all that the diagnosis shows is within the text: what is wrong, the other place, and what a fix replaces
+-- all that the diagnosis shows is within the text: what is wrong, and the other place
 pub record IsDiagnosisOf (text : List ℕ) (diagnosis : Diagnosis) : Type 0 where
   pub shown : IsWithin text diagnosis.span
   pub other : IfSome diagnosis.other (λ other. IsWithin text other.span)
-  pub mended : IfSome diagnosis.fix (λ fix. IsWithin text fix.span)

@@ -1,5 +1,5 @@
--- When a text is good: its tokens have their one tree within the limits, which breaks no rule and lacks nothing, but for an
--- operation where requests may hold fragments alone.
+-- When a text is good: its tokens have their one tree within the limits, which breaks no rule and in which nothing is missing, but
+-- for an operation if requests may hold fragments alone.
 -- Source: this project's choice.
 use Rattle.std.specs.Prelude.{◌≡◌, ◌⊎◌, ℕ, Bool, true, List, None, Some}
 use Rattle.graphql_parser.specs.tokens.Cuts.{IsCutInto}
@@ -13,7 +13,7 @@ use Rattle.graphql_parser.specs.types.Error.TheVariants.{MissingOperation}
 use Rattle.graphql_report.specs.declared.fronts.Language.{Language}
 use Rattle.graphql_report.specs.declared.fronts.Language.TheVariants.{Requests, Schemas}
 
--- These tokens have one tree, and it is a document: it breaks no rule and lacks nothing, or an operation alone where
+-- These tokens have one tree, and it is a document: it breaks no rule, and nothing is missing, or an operation alone if
 -- `fragments` says that it may.
 pub record HasDocument {D Document : Type 0} (fragments : Bool) (language : Described D Document) (limits : Limits) (tokens : List Token) : Type 0 where
   pub definitions : List D

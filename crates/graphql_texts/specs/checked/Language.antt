@@ -1,4 +1,4 @@
--- What the text of a file is read as: as an option or the file's name says, else as what the text itself tells.
+-- What the text of a file is read as: as an option or the file's name says, else by its own words.
 -- Source: this project's choice; the keywords are those of GraphQL October 2021, sections 2.3, 2.8 and 3.
 use Rattle.std.specs.Prelude.{◌≡◌, ℕ, Bool, ◌||◌, List, [], ◌∷◌, take, Option, Some, None, IfSome, codes, nat_eq, bytes_eq, if◌then◌else◌}
 use Rattle.std.specs.List.{ends_with, list_any}
@@ -16,7 +16,7 @@ use Rattle.graphql_report.specs.declared.fronts.Language.TheVariants.{Requests, 
 abbrev pub is_schema_file : List ℕ → Bool
 is_schema_file name = ends_with nat_eq name (codes ".graphqls") || ends_with nat_eq name (codes ".gqls") || ends_with nat_eq name (codes ".sdl")
 
--- the language that the option says, else the file's name; None where neither says one
+-- the language that the option says, else the file's name; None if neither says one
 abbrev pub language_said : Option Language → List ℕ → Option Language
 language_said (Some language) name = Some language
 language_said None name = if is_schema_file name then Some Schemas else None
@@ -25,7 +25,7 @@ language_said None name = if is_schema_file name then Some Schemas else None
 abbrev pub IsReadAs : Option Language → List ℕ → Language → Type 0
 IsReadAs option name language = IfSome (language_said option name) (λ said. language ≡ said)
 
--- ---- where neither says one
+-- ---- if neither says one
 
 -- the word is one of these
 abbrev pub is_one_of : List ℕ → List (List ℕ) → Bool
