@@ -41,8 +41,8 @@ meant-told language token names word old new asked (inl (empty, e, is)) guess = 
 meant-told language token names word old new asked (inr (some, e, is)) (inl empty) = absurd (some empty)
 meant-told language token names word old new asked (inr (some, e, is)) (inr expected) = (_, e, meant word expected refl is)
 
-pub meant-result : {E : Type 0} (result : Result (Option (Bor (List ℕ))) E) (language : Language) (token : Bare) (names : List (List ℕ)) (word old new : List ℕ) → IfOk result (λ meant. AddsMeant word old new (word_of meant)) → IsGuess names word → IfOk result (λ meant. AddsHint language token names old new (word_of meant))
-meant-result (Ok word) language token names meant old new told guess = meant-told language token names meant old new (word_of word) told guess
+pub meant-result : {E : Type 0} (result : Result (Option (Bor (List ℕ))) E) (language : Language) (token : Bare) (names : List (List ℕ)) (word old new : List ℕ) → IfOk result (λ given. AddsMeant word old new (word_of given)) → IsGuess names word → IfOk result (λ given. AddsHint language token names old new (word_of given))
+meant-result (Ok given) language token names word old new told guess = meant-told language token names word old new (word_of given) told guess
 meant-result (Err refused) language token names word old new told guess = tt
 
 -- an expected keyword
