@@ -1,5 +1,5 @@
 -- Which word a hint asks for.
-use Rattle.std.proofs.Common.{◌≡◌, ◌⊎◌, inl, inr, ℕ, suc, zero, ◌<◌, Bool, true, false, ◌||◌, List, [], ◌∷◌, ◌++◌, Result, Ok, Err, length, get_or, refl, sym, ap, subst, ◌∙◌, append-nil, arith}
+use Rattle.std.proofs.Common.{◌≡◌, ◌⊎◌, inl, inr, ℕ, suc, zero, ◌<◌, Bool, true, false, ◌||◌, List, [], ◌∷◌, Result, Ok, Err, length, get_or, refl, sym, ap, subst, ◌∙◌, append-nil, arith}
 use Rattle.std.specs.Borrow.{Bor}
 use Rattle.std.specs.Prelude.{Option, None, IfOk}
 use Rattle.std.specs.List.{Contains}
@@ -9,7 +9,7 @@ use Rattle.std.proofs.lemmas.Slice.Eq.{bytes_eq-Decides}
 use Rattle.graphql_tokens.specs.tokens.Token.{Bare}
 use Rattle.graphql_report.specs.declared.fronts.Language.{Language}
 use Rattle.graphql_report.specs.inner.Called.{texts}
-use Rattle.graphql_report.specs.inner.Told.{Adds, AddsHint, AddsMeant, IsGuess}
+use Rattle.graphql_report.specs.inner.Told.{AddsHint, AddsMeant, IsGuess}
 use Rattle.graphql_report.specs.reports.Expected.{quoted}
 use Rattle.graphql_report.specs.reports.Hints.{is_among, IsWordOf, none, meant, word_of}
 

@@ -351,11 +351,7 @@ fn explain_limit(
 }
 
 /// What is said after the message of a limit that is reached.
-pub fn limit_remark(
-    alloc: Global,
-    depth: &Depth,
-    read: &ReadUpTo<'_>,
-) -> Result<String, AllocError>
+pub fn limit_remark(alloc: Global, depth: &Depth, read: &ReadUpTo<'_>) -> Result<String, AllocError>
     ensures { IfOk result (λ told.
         string_bytes told ≡ limit_words depth.now.what.now depth.now.most ++ unclosed_part read.now.unclosed) }
 {

@@ -1,4 +1,4 @@
-use Rattle.std.proofs.Common.{ℕ, List, Option, None, refl, sym, subst}
+use Rattle.std.proofs.Common.{Option, None, refl, sym, subst}
 use Rattle.std.specs.Prelude.{IfOk}
 use Rattle.std.specs.String.{string_bytes}
 use Rattle.graphql_tokens.specs.declared.pos.Pos.{Pos}
