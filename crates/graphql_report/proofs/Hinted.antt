@@ -1,5 +1,5 @@
 -- Which word a hint asks for.
-use Rattle.std.proofs.Common.{◌≡◌, ◌⊎◌, inl, inr, ℕ, suc, zero, ◌<◌, Bool, true, false, ◌||◌, List, [], ◌∷◌, ◌++◌, Result, Ok, Err, length, get_or, refl, sym, ap, subst, ◌∙◌, append-nil, arith}
+use Rattle.std.proofs.Common.{◌≡◌, ◌⊎◌, inl, inr, ℕ, suc, zero, ◌<◌, Bool, true, false, ◌||◌, List, [], ◌∷◌, Result, Ok, Err, length, get_or, refl, sym, ap, subst, ◌∙◌, append-nil, arith}
 use Rattle.std.specs.Borrow.{Bor}
 use Rattle.std.specs.Prelude.{Option, None, IfOk}
 use Rattle.std.specs.List.{Contains}
@@ -9,7 +9,7 @@ use Rattle.std.proofs.lemmas.Slice.Eq.{bytes_eq-Decides}
 use Rattle.graphql_tokens.specs.tokens.Token.{Bare}
 use Rattle.graphql_report.specs.declared.fronts.Language.{Language}
 use Rattle.graphql_report.specs.inner.Called.{texts}
-use Rattle.graphql_report.specs.inner.Told.{Adds, AddsHint, AddsMeant, IsGuess}
+use Rattle.graphql_report.specs.inner.Told.{AddsHint, AddsMeant, IsGuess}
 use Rattle.graphql_report.specs.reports.Expected.{quoted}
 use Rattle.graphql_report.specs.reports.Hints.{is_among, IsWordOf, none, meant, word_of}
 
@@ -41,8 +41,8 @@ meant-told language token names word old new asked (inl (empty, e, is)) guess = 
 meant-told language token names word old new asked (inr (some, e, is)) (inl empty) = absurd (some empty)
 meant-told language token names word old new asked (inr (some, e, is)) (inr expected) = (_, e, meant word expected refl is)
 
-pub meant-result : {E : Type 0} (result : Result (Option (Bor (List ℕ))) E) (language : Language) (token : Bare) (names : List (List ℕ)) (word old new : List ℕ) → IfOk result (λ meant. AddsMeant word old new (word_of meant)) → IsGuess names word → IfOk result (λ meant. AddsHint language token names old new (word_of meant))
-meant-result (Ok word) language token names meant old new told guess = meant-told language token names meant old new (word_of word) told guess
+pub meant-result : {E : Type 0} (result : Result (Option (Bor (List ℕ))) E) (language : Language) (token : Bare) (names : List (List ℕ)) (word old new : List ℕ) → IfOk result (λ given. AddsMeant word old new (word_of given)) → IsGuess names word → IfOk result (λ given. AddsHint language token names old new (word_of given))
+meant-result (Ok given) language token names word old new told guess = meant-told language token names word old new (word_of given) told guess
 meant-result (Err refused) language token names word old new told guess = tt
 
 -- an expected keyword

@@ -20,10 +20,9 @@ pub struct ErrorOffsets {
     pub second: Option<(usize, &'static str)>,
 }
 
-/// Where the tokens stand in `text` that `error` is about, an error about definitions that a parser returned for it:
-/// for each place of the error a token that has it, or the length of the text if none has. Of other errors it returns
-/// the length of the text. It walks over the tokens once, to find those that have the place only because a carriage
-/// return stands before them. An error says that memory was refused. (This project's own call.)
+/// Where the tokens stand in `text` that `error` is about, an error about definitions that a parser returned for it: for
+/// each place of the error a token that has it, by its name if several have it, or the length of the text if none has.
+/// For other errors it returns the length of the text. An error says that memory was refused. (This project's own call.)
 pub fn error_offsets(alloc: Global, text: &str, error: &Error) -> Result<ErrorOffsets, AllocError>
     ensures { IfOk result (AreErrorOffsets text.now error.now) }
 {

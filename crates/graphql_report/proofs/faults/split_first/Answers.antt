@@ -1,6 +1,5 @@
 use Rattle.std.proofs.Common.{ℕ, List, ◌∷◌, sym, ap, ◌∙◌}
 use Rattle.std.specs.Str.{chars}
-use Rattle.graphql_report.proofs.NumberParts.{no-char}
 use Rattle.graphql_report.proofs.StringTexts.{first-char}
 use Rattle.graphql_report.proofs.faults.split_first.Goals as goal
 

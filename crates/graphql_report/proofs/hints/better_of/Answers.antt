@@ -1,8 +1,6 @@
-use Rattle.std.proofs.Common.{◌≡◌, ◌⊎◌, inl, inr, sym, ap, ◌∙◌, subst}
-use Rattle.std.specs.Prelude.{codes}
+use Rattle.std.proofs.Common.{◌≡◌, inl, inr, sym, ap, ◌∙◌}
 use Rattle.std.proofs.lemmas.Slice.Eq.{bytes_eq-Decides}
 use Rattle.graphql_report.specs.reports.Expected.{location_name, quoted}
-use Rattle.graphql_report.specs.reports.Hints.{IsWordOf}
 use Rattle.graphql_report.proofs.hints.better_of.Goals as goal
 use Rattle.graphql_report.proofs.hints.better_of.Goals.{then-eq+else-loop-location-test, else-eq+in-Some+in_ok-best-2, else-eq+in_default}
 
