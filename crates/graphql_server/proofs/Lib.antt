@@ -1,3 +1,3 @@
 pub mod Changes
 pub mod Edited
-pub mod Lists
+pub mod Shown

@@ -5,7 +5,7 @@ ghost use Rattle.graphql_texts.specs.checked.Diagnosed.{IsDiagnosisOf};
 ghost use Rattle.graphql_texts.specs.checked.Good.{IsGoodText};
 ghost use Rattle.graphql_parser.specs.notation.Limits.{default_limits};
 ghost use Rattle.text_edits.specs.Positions.{position_of};
-ghost use Rattle.graphql_server.specs.Ranges.{IsRange, IsDiagnosticOf};
+ghost use Rattle.graphql_server.specs.Ranges.{IsRange, IsDiagnosticOf, Shows, AllShown};
 
 use crate::line_ends::with_line_feeds;
 use crate::messages::{Diagnostic, Location, Related};
@@ -67,6 +67,23 @@ pub fn diagnostics_of<'a>(
     ensures ranges { IfOk result (λ told. All (IsDiagnosticOf encoding document.now) told.items) }
 {
     let found = found_in(alloc, language, document)?;
+    let diagnostics = shown(alloc, uri, encoding, document, found)?;
+    Ok(diagnostics)
+}
+
+/// The diagnostics that show what was found in this text: one for each diagnosis, in their order.
+///
+/// It fails only if memory runs out.
+pub fn shown<'a>(
+    alloc: Global,
+    uri: &'a str,
+    encoding: Encoding,
+    document: &Document,
+    found: Vec<Diagnosis>,
+) -> Result<Vec<Diagnostic<'a>>, AllocError>
+    ensures shown { IfOk result (λ told. AllShown encoding document.now found.items told.items) }
+    ensures ranges { IfOk result (λ told. All (IsDiagnosticOf encoding document.now) told.items) }
+{
     let mut diagnostics = Vec::new(alloc);
     for diagnosis in found {
         diagnostics.push(diagnostic_of(uri, encoding, document, diagnosis))?;
@@ -81,7 +98,8 @@ pub fn diagnostic_of<'a>(
     document: &Document,
     diagnosis: Diagnosis,
 ) -> Diagnostic<'a>
-    ensures { IsDiagnosticOf encoding document.now result }
+    ensures ranges { IsDiagnosticOf encoding document.now result }
+    ensures shows { Shows encoding document.now diagnosis result }
 {
     let Diagnosis {
         span,
