@@ -23,7 +23,7 @@ pub fn write_fixes(
     let start = asked.offset_of(range.start);
     let end = asked.offset_of(range.end);
     json.begin_list();
-    for diagnosis in found_in(asked.alloc, asked.language()?, &asked.text.document)? {
+    for diagnosis in found_in(asked.alloc, asked.language()?, asked.document)? {
         if diagnosis.span.start <= end && diagnosis.span.end >= start {
             write_action(asked, diagnosis, json)?;
         }
@@ -42,9 +42,7 @@ fn write_action(
     let Some(fix) = diagnosis.fix.take() else {
         return Ok(());
     };
-    let document = &asked.text.document;
-    let encoding = asked.client.encoding;
-    let diagnostic = diagnostic_of(asked.uri, encoding, document, diagnosis);
+    let diagnostic = diagnostic_of(asked.uri, asked.client.encoding, asked.document, diagnosis);
     json.begin_object();
     json.text_member("title", fix.title.as_str());
     json.text_member("kind", QUICK_FIX);
@@ -59,10 +57,9 @@ fn write_action(
 
 // Writes what a fix changes.
 fn write_fix(asked: Asked<'_>, fix: &Fix, json: &mut JsonWriter) -> Result<(), AllocError> {
-    let document = &asked.text.document;
     let range = range_of(
         asked.client.encoding,
-        document,
+        asked.document,
         fix.span.start,
         fix.span.end,
     );
