@@ -18,7 +18,7 @@ pub fn line_end_of(text: &str) -> &'static str {
 
 /// A text whose lines end so.
 ///
-/// It fails only where memory runs out.
+/// It fails only if memory runs out.
 pub fn with_line_end(alloc: Global, text: &str, line_end: &str) -> Result<String, AllocError> {
     let text = text.replace(alloc, "\r\n", "\n")?;
     text.replace(alloc, "\n", line_end)
@@ -27,7 +27,7 @@ pub fn with_line_end(alloc: Global, text: &str, line_end: &str) -> Result<String
 /// The text with a line feed for each carriage return that ends a line alone; None if there is none. It is as long, and has the same
 /// tokens at the same offsets: each ends a line, a comment and a string, and is a line feed in a block string.
 ///
-/// It fails only where memory runs out.
+/// It fails only if memory runs out.
 pub fn with_line_feeds(alloc: Global, text: &str) -> Result<Option<String>, AllocError> {
     if memchr(b'\r', text.as_bytes()).is_none() {
         return Ok(None);
