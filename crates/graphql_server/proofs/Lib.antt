@@ -1,3 +1,5 @@
 pub mod Changes
 pub mod Edited
-pub mod Lists
+pub mod Items
+pub mod Names
+pub mod Shown

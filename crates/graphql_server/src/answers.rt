@@ -1,4 +1,4 @@
-//! What is sent to the client, and why a message is refused.
+//! What is sent to the client, and why a message is rejected.
 
 use crate::client::Client;
 use crate::members::Fault;
@@ -8,11 +8,11 @@ use std::alloc::{AllocError, Global};
 use std::io::Write;
 use std::mem;
 
-/// Why a message is refused, or has no effect.
+/// Why a message is rejected, or has no effect.
 #[derive(Clone, Copy)]
 pub enum Failure<'a> {
     OutOfMemory,
-    /// A header part that is none, or whose length is wrong or too great, and why.
+    /// Why a header part is invalid.
     Header(&'static str),
     /// Its content is coded otherwise than in UTF-8, as its header says.
     OtherCharset,

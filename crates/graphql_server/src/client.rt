@@ -22,7 +22,7 @@ pub struct Client {
 }
 
 impl Client {
-    /// A client that tells nothing of itself.
+    /// A client that reports nothing of itself.
     pub fn new() -> Client {
         Client {
             encoding: Encoding::Utf16,
@@ -56,7 +56,7 @@ impl SymbolKinds {
         }
     }
 
-    /// Those of the protocol's first version, which every client knows that doesn't tell its kinds.
+    /// Those of the protocol's first version, which every client knows that doesn't report its kinds.
     pub fn first() -> SymbolKinds {
         let mut kinds = SymbolKinds::none();
         for kind in 1..=LAST_OF_FIRST {

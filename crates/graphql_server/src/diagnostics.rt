@@ -5,7 +5,7 @@ ghost use Rattle.graphql_texts.specs.checked.Diagnosed.{IsDiagnosisOf};
 ghost use Rattle.graphql_texts.specs.checked.Good.{IsGoodText};
 ghost use Rattle.graphql_parser.specs.notation.Limits.{default_limits};
 ghost use Rattle.text_edits.specs.Positions.{position_of};
-ghost use Rattle.graphql_server.specs.Ranges.{IsRange, IsDiagnosticOf};
+ghost use Rattle.graphql_server.specs.Ranges.{IsRange, IsDiagnosticOf, Shows, AllShown};
 
 use crate::messages::{Diagnostic, Location, Related};
 use graphql_parser::Limits;
@@ -42,9 +42,27 @@ pub fn diagnostics_of<'a>(
 {
     let text = document.text();
     let found = diagnoses_of(alloc, language, text, Limits::default())?;
+    let diagnostics = shown(alloc, uri, language, encoding, document, found)?;
+    Ok(diagnostics)
+}
+
+/// The diagnostics that show what was found in this text: one for each diagnosis, in their order.
+///
+/// It fails only if memory runs out.
+pub fn shown<'a>(
+    alloc: Global,
+    uri: &'a str,
+    language: Language,
+    encoding: Encoding,
+    document: &Document,
+    found: Vec<Diagnosis>,
+) -> Result<Vec<Diagnostic<'a>>, AllocError>
+    ensures shown { IfOk result (λ told. AllShown encoding document.now found.items told.items) }
+    ensures ranges { IfOk result (λ told. All (IsDiagnosticOf encoding document.now) told.items) }
+{
     let mut diagnostics = Vec::new(alloc);
     for diagnosis in found {
-        let other = other_of(alloc, language, text, &diagnosis)?;
+        let other = other_of(alloc, language, document.text(), &diagnosis)?;
         diagnostics.push(diagnostic_of(uri, encoding, document, diagnosis, other))?;
     }
     Ok(diagnostics)
@@ -73,7 +91,8 @@ pub fn diagnostic_of<'a>(
     diagnosis: Diagnosis,
     other: Option<Other>,
 ) -> Diagnostic<'a>
-    ensures { IsDiagnosticOf encoding document.now result }
+    ensures ranges { IsDiagnosticOf encoding document.now result }
+    ensures shows { Shows encoding document.now diagnosis result }
 {
     let Diagnosis {
         span,

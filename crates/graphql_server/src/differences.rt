@@ -16,7 +16,7 @@ pub struct Edit {
 
 /// The edits that make a new text of an old one, in the order of the text: one for each run of lines that change.
 ///
-/// It fails only where memory runs out.
+/// It fails only if memory runs out.
 pub fn edits_between(alloc: Global, old: &str, new: &str) -> Result<Vec<Edit>, AllocError>
     ensures { IfOk result (λ edits. IsEdited old.now new.now edits.items new.now) }
 {

@@ -43,7 +43,7 @@ fn touches(asked: Asked<'_>, range: Range, diagnosis: &Diagnosis, other: Option<
             Some(other) => {
                 let span = other.span;
                 let encoding = asked.client.encoding;
-                let place = range_of(encoding, &asked.text.document, span.start, span.end);
+                let place = range_of(encoding, asked.document, span.start, span.end);
                 range.start.line <= place.end.line && range.end.line >= place.start.line
             }
             None => false,
@@ -62,7 +62,7 @@ fn write_action(
     let Some(fix) = diagnosis.fix(asked.alloc, language, asked.text(), limits)? else {
         return Ok(());
     };
-    let document = &asked.text.document;
+    let document = asked.document;
     let encoding = asked.client.encoding;
     let diagnostic = diagnostic_of(asked.uri, encoding, document, diagnosis, other);
     json.begin_object();
@@ -79,10 +79,9 @@ fn write_action(
 
 // Writes what a fix changes.
 fn write_fix(asked: Asked<'_>, fix: &Fix, json: &mut JsonWriter) -> Result<(), AllocError> {
-    let document = &asked.text.document;
     let range = range_of(
         asked.client.encoding,
-        document,
+        asked.document,
         fix.span.start,
         fix.span.end,
     );

@@ -4,7 +4,7 @@ use crate::places::Places;
 use crate::writer::JsonWriter;
 use graphql_editor::{FoldKind, Structure};
 
-/// Writes the folds of a text: from its first line to its last one, or, where a bracket stands last, to the line before that, so that
+/// Writes the folds of a text: from its first line to its last one, or, if a bracket is last, to the line before that, so that
 /// the bracket stays in view.
 pub fn write_folds(structure: &Structure, places: &Places<'_>, json: &mut JsonWriter) {
     json.begin_list();

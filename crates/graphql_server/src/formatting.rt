@@ -17,10 +17,10 @@ use graphql_texts::rewriting::laid_out;
 use std::alloc::{AllocError, Global};
 use text_edits::Range;
 
-/// Writes what changes a text into what `gql format` makes of it: an edit for each run of lines that change. Null where the text has an
+/// Writes what changes a text into what `gql format` makes of it: an edit for each run of lines that change. Null if the text has an
 /// error.
 ///
-/// It fails only where memory runs out.
+/// It fails only if memory runs out.
 pub fn write_layout(
     asked: Asked<'_>,
     places: &Places<'_>,
@@ -44,7 +44,7 @@ pub fn write_layout(
 /// Writes the same of each definition that touches the range, which is laid out as if it stood alone, with the line ends of the text;
 /// one that has an error stays as it is.
 ///
-/// It fails only where memory runs out.
+/// It fails only if memory runs out.
 pub fn write_layout_of(
     asked: Asked<'_>,
     structure: &Structure,

@@ -9,17 +9,17 @@ pub const LONGEST_HEADERS: usize = 1024;
 /// A content of more bytes than this, 64 MiB, is not taken (this project's choice).
 pub const LONGEST_CONTENT: usize = 64 * 1024 * 1024;
 
-// After a fault, reading goes on where this stands next.
+// After a fault, reading goes on where this comes next.
 const LENGTH_FIELD: &[u8] = b"Content-Length:";
 
-/// What stands next in the bytes that arrived.
+/// What comes next in the bytes that arrived.
 #[derive(Clone, Copy)]
 pub enum Piece {
     /// The content of a message, from this byte of the pending ones up to that one.
     Content { start: usize, end: usize },
     /// The same, of a message whose header says that its characters are not coded in UTF-8.
     OtherCharset,
-    /// A header part that is none, or whose length is wrong or too great, and why. It is told once until a message is whole again.
+    /// Why a header part is invalid. It is reported once until a message is whole again.
     Fault(&'static str),
 }
 
@@ -32,7 +32,7 @@ pub struct Frames {
     passed: usize,
     // A fault was passed, and the next header part is looked for.
     is_lost: bool,
-    // A fault was told, and no message came after it.
+    // A fault was reported, and no message came after it.
     is_told: bool,
 }
 
@@ -50,7 +50,7 @@ impl Frames {
 
     /// Adds the bytes that arrived.
     ///
-    /// It fails only where memory runs out. Then all bytes that are pending are gone, and the next header part is looked for.
+    /// It fails only if memory runs out. Then all bytes that are pending are gone, and the next header part is looked for.
     pub fn add(&mut self, bytes: &[u8]) -> Result<(), AllocError> {
         let added = self.pending.extend_from_slice(bytes);
         if added.is_err() {
@@ -69,7 +69,7 @@ impl Frames {
             .unwrap_or(&mut [])
     }
 
-    /// What stands next; None where more bytes have to come first.
+    /// What comes next; None if more bytes have to come first.
     pub fn next(&mut self) -> Option<Piece> {
         for _ in 0..u64::MAX {
             if self.is_lost && !self.finds_header() {
@@ -181,7 +181,7 @@ fn header_of(bytes: &[u8]) -> Result<Option<Header>, &'static str> {
     }
 }
 
-// The line that begins at this byte, without its end; None where it doesn't end in these bytes.
+// The line that begins at this byte, without its end; None if it doesn't end in these bytes.
 fn line_at(bytes: &[u8], start: usize) -> Option<&[u8]> {
     let rest = bytes.get(start..)?;
     let end = memmem::find(rest, b"\r\n")?;

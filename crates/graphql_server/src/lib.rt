@@ -7,12 +7,13 @@
 //! value by value ([`writer`]). A session ([`session`]) keeps the open texts ([`texts`]), reads others from their files ([`files`]) and
 //! answers each request ([`results`]), about
 //! diagnostics ([`diagnostics`]), quick fixes ([`fixes`]), the outline ([`outline`]), folding and selection ranges ([`folding`],
-//! [`selection`]), names ([`navigation`]) and layout ([`formatting`], [`differences`]); what it can do is told at the beginning
+//! [`selection`]), names ([`navigation`]) and layout ([`formatting`], [`differences`]); what it can do is reported at the beginning
 //! ([`capabilities`]), and what it sends is what the client can take ([`client`]).
 //!
-//! Proved: it is safe and ends on every input. A text after a change is what the protocol says, as `text_edits` has it; each range of
-//! a diagnostic is one of positions of the text; what is published of a text is made from that text alone, and is nothing only where
-//! the text is good. The edits that lay a text out make of it what is laid out. What else is answered is tested.
+//! Proved: it is safe and ends on every input. The changes that are read are those of the message, and a text after them is what the
+//! protocol says, as `text_edits` has it. Each finding has one diagnostic, in order, with its range, code and words; what is published
+//! of a text is made from that text alone, and is nothing only if the text is good. The edits that lay a text out make of it what is
+//! laid out. What else is answered is tested.
 #![tactic(auto)]
 
 mod answers;

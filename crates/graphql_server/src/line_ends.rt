@@ -17,7 +17,7 @@ pub fn line_end_of(text: &str) -> &'static str {
 
 /// A text whose lines end so.
 ///
-/// It fails only where memory runs out.
+/// It fails only if memory runs out.
 pub fn with_line_end(alloc: Global, text: &str, line_end: &str) -> Result<String, AllocError> {
     let text = text.replace(alloc, "\r\n", "\n")?;
     text.replace(alloc, "\n", line_end)

@@ -1,5 +1,11 @@
 //! The members of a message that a client sent, found by their paths.
 
+ghost use Rattle.std.specs.Prelude.{◌≡◌, ◌≢◌, None, Some, IfOk, IfErr, OnOk, MatchOption};
+ghost use Rattle.json.specs.Json.{string, array};
+ghost use Rattle.json.specs.Find.{get};
+ghost use Rattle.json.specs.Value.{value_view, items_view};
+ghost use Rattle.graphql_server.specs.Members.{names, value_at, IsLeftOut, IsSize, HasSize, HasText};
+
 use crate::writer::JsonWriter;
 use json::Value;
 use text_edits::Position;
@@ -82,7 +88,12 @@ impl<'v, 'a> Member<'v, 'a> {
     }
 
     /// The value at a path, as `params.textDocument.uri`, of a message or an item of a list.
-    pub fn at(self, path: &'static str) -> Result<Member<'v, 'a>, Fault> {
+    pub fn at(self, path: &'static str) -> Result<Member<'v, 'a>, Fault>
+        ensures found { IfOk result (λ member.
+            value_at (names path.now) (value_view self.entry.value.now) ≡ Some (value_view member.value.now)) }
+        ensures missing { IfErr result (λ fault. fault.wrong ≡ Wrong.Missing →
+            value_at (names path.now) (value_view self.entry.value.now) ≡ None) }
+    {
         match find(self.value, path) {
             Ok(value) => Ok(Member {
                 value,
@@ -100,7 +111,10 @@ impl<'v, 'a> Member<'v, 'a> {
     }
 
     /// The same, if it is there and not null.
-    pub fn get(self, path: &'static str) -> Result<Option<Member<'v, 'a>>, Fault> {
+    pub fn get(self, path: &'static str) -> Result<Option<Member<'v, 'a>>, Fault>
+        ensures { IfOk result (λ found. MatchOption found (IsLeftOut (value_view self.entry.value.now) (names path.now))
+            (λ member. value_at (names path.now) (value_view self.entry.value.now) ≡ Some (value_view member.value.now))) }
+    {
         match self.at(path) {
             Ok(member) => Ok(match member.value {
                 Value::Null => None,
@@ -114,7 +128,9 @@ impl<'v, 'a> Member<'v, 'a> {
     }
 
     /// The text at a path.
-    pub fn text_at(self, path: &'static str) -> Result<&'a str, Fault> {
+    pub fn text_at(self, path: &'static str) -> Result<&'a str, Fault>
+        ensures { IfOk result (λ text. HasText (value_view self.entry.value.now) (names path.now) text.now) }
+    {
         self.at(path)?.text()
     }
 
@@ -126,7 +142,9 @@ impl<'v, 'a> Member<'v, 'a> {
         }
     }
 
-    pub fn text(self) -> Result<&'a str, Fault> {
+    pub fn text(self) -> Result<&'a str, Fault>
+        ensures { IfOk result (λ text. value_view self.entry.value.now ≡ string text.now) }
+    {
         match self.value {
             Value::String(text) => Ok(*text),
             _ => Err(self.fault(Wrong::NotText)),
@@ -134,7 +152,9 @@ impl<'v, 'a> Member<'v, 'a> {
     }
 
     /// An integer that isn't negative.
-    pub fn size(self) -> Result<usize, Fault> {
+    pub fn size(self) -> Result<usize, Fault>
+        ensures { IfOk result (λ size. IsSize (value_view self.entry.value.now) size) }
+    {
         if let Value::Number(digits) = self.value
             && let Ok(size) = digits.parse::<usize>()
         {
@@ -168,7 +188,9 @@ impl<'v, 'a> Member<'v, 'a> {
     }
 
     /// The items of a list.
-    pub fn items(self) -> Result<&'v [Value<'a>], Fault> {
+    pub fn items(self) -> Result<&'v [Value<'a>], Fault>
+        ensures { IfOk result (λ items. value_view self.entry.value.now ≡ array (items_view items.now)) }
+    {
         match self.value {
             Value::Array(items) => Ok(items.as_slice()),
             _ => Err(self.fault(Wrong::NotList)),
@@ -176,7 +198,9 @@ impl<'v, 'a> Member<'v, 'a> {
     }
 
     /// An item of this list.
-    pub fn item(self, index: usize, value: &'v Value<'a>) -> Member<'v, 'a> {
+    pub fn item(self, index: usize, value: &'v Value<'a>) -> Member<'v, 'a>
+        ensures { result.value.now ≡ value.entry.now }
+    {
         Member {
             value,
             item: Some(Item {
@@ -211,7 +235,9 @@ pub struct Reading<'v, 'a> {
 
 impl<'v, 'a> Reading<'v, 'a> {
     /// Of this message or item nothing is read yet.
-    pub fn of(member: Member<'v, 'a>) -> Reading<'v, 'a> {
+    pub fn of(member: Member<'v, 'a>) -> Reading<'v, 'a>
+        ensures { result.member ≡ member.entry }
+    {
         Reading {
             member,
             fault: None,
@@ -219,7 +245,9 @@ impl<'v, 'a> Reading<'v, 'a> {
     }
 
     /// Fails with the first member that is wrong.
-    pub fn check(self) -> Result<(), Fault> {
+    pub fn check(self) -> Result<(), Fault>
+        ensures { OnOk result (self.entry.fault ≡ None) }
+    {
         match self.fault {
             None => Ok(()),
             Some(fault) => Err(fault),
@@ -227,7 +255,10 @@ impl<'v, 'a> Reading<'v, 'a> {
     }
 
     /// What was read, unless it is wrong.
-    pub fn taken<T: Copy>(&mut self, read: Result<T, Fault>) -> Option<T> {
+    pub fn taken<T: Copy>(&mut self, read: Result<T, Fault>) -> Option<T>
+        ensures same { self.new.member ≡ self.old.member }
+        ensures read { self.new.fault ≡ None → (self.old.fault ≡ None) × MatchOption result ⊥ (λ value. read ≡ Ok value) }
+    {
         match read {
             Ok(value) => Some(value),
             Err(fault) => {
@@ -237,12 +268,19 @@ impl<'v, 'a> Reading<'v, 'a> {
         }
     }
 
-    fn note(&mut self, fault: Fault) {
+    fn note(&mut self, fault: Fault)
+        ensures same { self.new.member ≡ self.old.member }
+        ensures noted { self.new.fault ≢ None }
+    {
         self.fault = self.fault.or(Some(fault));
     }
 
     /// The member at a path.
-    pub fn member(&mut self, path: &'static str) -> Option<Member<'v, 'a>> {
+    pub fn member(&mut self, path: &'static str) -> Option<Member<'v, 'a>>
+        ensures same { self.new.member ≡ self.old.member }
+        ensures read { self.new.fault ≡ None → (self.old.fault ≡ None) × MatchOption result ⊥
+            (λ member. value_at (names path.now) (value_view self.old.member.value.now) ≡ Some (value_view member.value.now)) }
+    {
         match self.member.at(path) {
             Ok(member) => Some(member),
             Err(fault) => {
@@ -253,7 +291,11 @@ impl<'v, 'a> Reading<'v, 'a> {
     }
 
     /// The member at a path, if it is there and not null.
-    pub fn optional(&mut self, path: &'static str) -> Option<Member<'v, 'a>> {
+    pub fn optional(&mut self, path: &'static str) -> Option<Member<'v, 'a>>
+        ensures same { self.new.member ≡ self.old.member }
+        ensures read { self.new.fault ≡ None → (self.old.fault ≡ None) × MatchOption result (IsLeftOut (value_view self.old.member.value.now) (names path.now))
+            (λ member. value_at (names path.now) (value_view self.old.member.value.now) ≡ Some (value_view member.value.now)) }
+    {
         match self.member.get(path) {
             Ok(member) => member,
             Err(fault) => {
@@ -274,7 +316,10 @@ impl<'v, 'a> Reading<'v, 'a> {
         }
     }
 
-    pub fn text(&mut self, path: &'static str) -> &'a str {
+    pub fn text(&mut self, path: &'static str) -> &'a str
+        ensures same { self.new.member ≡ self.old.member }
+        ensures read { self.new.fault ≡ None → (self.old.fault ≡ None) × HasText (value_view self.old.member.value.now) (names path.now) result.now }
+    {
         let read = self.member.text_at(path);
         self.taken(read).unwrap_or("")
     }
@@ -318,7 +363,10 @@ impl<'v, 'a> Reading<'v, 'a> {
         }
     }
 
-    fn size(&mut self, path: &'static str) -> usize {
+    fn size(&mut self, path: &'static str) -> usize
+        ensures same { self.new.member ≡ self.old.member }
+        ensures read { self.new.fault ≡ None → (self.old.fault ≡ None) × HasSize (value_view self.old.member.value.now) (names path.now) result }
+    {
         match self.member(path) {
             None => 0,
             Some(member) => self.taken(member.size()).unwrap_or(0),
@@ -326,7 +374,11 @@ impl<'v, 'a> Reading<'v, 'a> {
     }
 
     /// The position that has its line at one path, and its column at another.
-    pub fn position(&mut self, line: &'static str, character: &'static str) -> Position {
+    pub fn position(&mut self, line: &'static str, character: &'static str) -> Position
+        ensures same { self.new.member ≡ self.old.member }
+        ensures read { self.new.fault ≡ None → (self.old.fault ≡ None) × HasSize (value_view self.old.member.value.now) (names line.now) result.line
+            × HasSize (value_view self.old.member.value.now) (names character.now) result.character }
+    {
         Position {
             line: self.size(line),
             character: self.size(character),
@@ -355,15 +407,28 @@ struct Lack {
 }
 
 // The value at a path.
-fn find<'v, 'a>(value: &'v Value<'a>, path: &str) -> Result<&'v Value<'a>, Lack> {
-    let (name, rest) = match path.split_once('.') {
-        Some((name, rest)) => (name, Some(rest)),
-        None => (path, None),
-    };
-    match (member_of(value, name), rest) {
-        (Ok(member), Some(rest)) => find(member, rest),
-        (Ok(member), None) => Ok(member),
-        (Err(wrong), _) => Err(Lack {
+fn find<'v, 'a>(value: &'v Value<'a>, path: &str) -> Result<&'v Value<'a>, Lack>
+    ensures found { IfOk result (λ found. value_at (names path.now) (value_view value.now) ≡ Some (value_view found.now)) }
+    ensures missing { IfErr result (λ lack. lack.wrong ≡ Wrong.Missing →
+        value_at (names path.now) (value_view value.now) ≡ None) }
+{
+    match path.split_once('.') {
+        None => member_at(value, path, path),
+        Some((name, rest)) => match member_at(value, name, path) {
+            Ok(member) => find(member, rest),
+            Err(lack) => Err(lack),
+        },
+    }
+}
+
+// The member of this name, with which a path begins.
+fn member_at<'v, 'a>(value: &'v Value<'a>, name: &str, path: &str) -> Result<&'v Value<'a>, Lack>
+    ensures found { IfOk result (λ member. get name.now (value_view value.now) ≡ Some (value_view member.now)) }
+    ensures missing { IfErr result (λ lack. lack.wrong ≡ Wrong.Missing → get name.now (value_view value.now) ≡ None) }
+{
+    match member_of(value, name) {
+        Ok(member) => Ok(member),
+        Err(wrong) => Err(Lack {
             wrong,
             left: match wrong {
                 // The value that has the path, and the dot after it.
@@ -375,7 +440,10 @@ fn find<'v, 'a>(value: &'v Value<'a>, path: &str) -> Result<&'v Value<'a>, Lack>
 }
 
 // The member of this name. Null has none.
-fn member_of<'v, 'a>(value: &'v Value<'a>, name: &str) -> Result<&'v Value<'a>, Wrong> {
+fn member_of<'v, 'a>(value: &'v Value<'a>, name: &str) -> Result<&'v Value<'a>, Wrong>
+    ensures found { IfOk result (λ member. get name.now (value_view value.now) ≡ Some (value_view member.now)) }
+    ensures missing { IfErr result (λ wrong. wrong ≡ Wrong.Missing → get name.now (value_view value.now) ≡ None) }
+{
     let members = match value {
         Value::Object(members) => members,
         Value::Null => return Err(Wrong::Missing),

@@ -7,7 +7,7 @@ use crate::writer::JsonWriter;
 use json::Value;
 use text_edits::{Position, Range};
 
-/// The name of a request, which its answer has too ("Request Message"); null where a message is none.
+/// The name of a request, which its answer has too ("Request Message"); null for what is no message.
 #[derive(Clone, Copy)]
 pub enum Id<'a> {
     Number(i64),

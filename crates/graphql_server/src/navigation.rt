@@ -28,7 +28,7 @@ pub fn write_definition(
 
 /// Writes where the text has the name at a position, with its definitions or without.
 ///
-/// It fails only where memory runs out.
+/// It fails only if memory runs out.
 pub fn write_references(
     asked: Asked<'_>,
     structure: &Structure,
@@ -61,9 +61,9 @@ pub fn write_span(asked: Asked<'_>, places: &Places<'_>, span: Span, json: &mut 
     );
 }
 
-/// Writes what the name at a position names, its first lines and its description; null where there is no name.
+/// Writes what the name at a position names, its first lines and its description; null if there is no name.
 ///
-/// It fails only where memory runs out.
+/// It fails only if memory runs out.
 pub fn write_hover(
     asked: Asked<'_>,
     structure: &Structure,

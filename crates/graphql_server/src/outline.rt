@@ -10,7 +10,7 @@ use std::alloc::AllocError;
 
 /// Writes the symbols of a text for a client: each with those inside of it, or one after another if it doesn't show them so.
 ///
-/// It fails only where memory runs out.
+/// It fails only if memory runs out.
 pub fn write_outline(
     asked: Asked<'_>,
     structure: &Structure,
@@ -86,7 +86,7 @@ fn close_to(depth: usize, open: usize, json: &mut JsonWriter) {
     }
 }
 
-/// The part of a text between two offsets; nothing where they aren't offsets of characters.
+/// The part of a text between two offsets; nothing if they aren't offsets of characters.
 pub fn slice_of(text: &str, span: Span) -> &str {
     text.get(span.start..span.end).unwrap_or("")
 }

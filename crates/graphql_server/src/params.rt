@@ -1,5 +1,9 @@
 //! The parameters of the messages of a client (Language Server Protocol 3.17).
 
+ghost use Rattle.std.specs.Prelude.{IfOk};
+ghost use Rattle.json.specs.Value.{value_view};
+ghost use Rattle.graphql_server.specs.Members.{IsChangeIn, AreChangesIn};
+
 use crate::answers::Failure;
 use crate::client::{Client, SymbolKinds};
 use crate::fixes::QUICK_FIX;
@@ -128,7 +132,9 @@ fn takes_of(method: Method, reading: &mut Reading<'_, '_>) -> bool {
 pub fn changes_of<'a>(
     alloc: Global,
     message: Member<'_, 'a>,
-) -> Result<Vec<Change<'a>>, Failure<'a>> {
+) -> Result<Vec<Change<'a>>, Failure<'a>>
+    ensures { IfOk result (λ changes. AreChangesIn (value_view message.entry.value.now) changes.items) }
+{
     let list = message.at("params.contentChanges")?;
     let items = list.items()?;
     let mut changes = Vec::new(alloc);
@@ -141,7 +147,9 @@ pub fn changes_of<'a>(
     Ok(changes)
 }
 
-fn change_of<'a>(item: Member<'_, 'a>) -> Result<Change<'a>, Fault> {
+fn change_of<'a>(item: Member<'_, 'a>) -> Result<Change<'a>, Fault>
+    ensures { IfOk result (λ change. IsChangeIn (value_view item.entry.value.now) change) }
+{
     let mut reading = Reading::of(item);
     let range = match reading.optional("range") {
         None => None,

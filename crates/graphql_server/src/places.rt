@@ -19,7 +19,7 @@ pub struct Places<'a> {
 impl<'a> Places<'a> {
     /// Goes over the text once.
     ///
-    /// It fails only where memory runs out.
+    /// It fails only if memory runs out.
     pub fn new(alloc: Global, encoding: Encoding, text: &'a str) -> Result<Places<'a>, AllocError> {
         let bytes = text.as_bytes();
         let mut marks = Vec::with_capacity(alloc, bytes.len() / STEP + 1)?;

@@ -13,13 +13,13 @@ use crate::outline::write_outline;
 use crate::params::{Query, position_in};
 use crate::places::Places;
 use crate::selection::{are_too_many, write_selection};
-use crate::texts::{OpenText, are_known};
+use crate::texts::are_known;
 use crate::writer::JsonWriter;
 use graphql_editor::Structure;
 use graphql_texts::Language;
 use graphql_texts::language::read_as;
 use std::alloc::{AllocError, Global};
-use text_edits::{Position, Range};
+use text_edits::{Document, Position, Range};
 
 const POSITION_CLIPPED: &str =
     "a position is on a line that the text doesn't have, or inside of a character";
@@ -34,30 +34,32 @@ pub struct Asked<'s> {
     pub alloc: Global,
     pub client: &'s Client,
     pub uri: &'s str,
-    pub text: &'s OpenText,
+    /// The language that its `languageId` says, if it is open and says one.
+    pub said: Option<Language>,
+    pub document: &'s Document,
 }
 
 impl<'s> Asked<'s> {
     /// The text itself.
     pub fn text(self) -> &'s str {
-        self.text.document.text()
+        self.document.text()
     }
 
-    /// What the text is read as: what its `languageId` says, else by the extension of its file, else as the text tells itself.
+    /// What the text is read as: what its `languageId` says, else by the extension of its file, else by what the text contains.
     ///
-    /// It fails only where memory runs out.
+    /// It fails only if memory runs out.
     pub fn language(self) -> Result<Language, AllocError> {
-        read_as(self.alloc, self.text.said, self.uri, self.text())
+        read_as(self.alloc, self.said, self.uri, self.text())
     }
 
     /// The byte at a position.
     pub fn offset_of(self, position: Position) -> usize {
-        self.text.document.offset_of(self.client.encoding, position)
+        self.document.offset_of(self.client.encoding, position)
     }
 
     // Logs that an end of a range is a place that the text doesn't have: it is clipped.
     fn log_clipped(self, range: Range, outbox: &mut Outbox) {
-        if !are_known(&self.text.document, self.client.encoding, range) {
+        if !are_known(self.document, self.client.encoding, range) {
             outbox.warn(POSITION_CLIPPED, self.uri);
         }
     }
@@ -119,14 +121,14 @@ impl<'s> Asked<'s> {
 
     /// What is wrong with the text.
     ///
-    /// It fails only where memory runs out.
+    /// It fails only if memory runs out.
     pub fn diagnostics(self) -> Result<Vec<Diagnostic<'s>>, AllocError> {
         diagnostics_of(
             self.alloc,
             self.uri,
             self.language()?,
             self.client.encoding,
-            &self.text.document,
+            self.document,
         )
     }
 

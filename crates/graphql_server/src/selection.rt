@@ -18,7 +18,7 @@ pub fn are_too_many(positions: usize, text: &str) -> bool {
 
 /// Writes the ranges around an offset of the text: that of a token, in it that of the node around it, and so on up to the whole text.
 ///
-/// It fails only where memory runs out.
+/// It fails only if memory runs out.
 pub fn write_selection(
     asked: Asked<'_>,
     places: &Places<'_>,

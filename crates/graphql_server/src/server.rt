@@ -80,7 +80,7 @@ impl Server {
         self.session.end();
     }
 
-    /// The exit status, once the client said `exit` or the input ended: 0 where the client asked for `shutdown` before it said `exit`,
+    /// The exit status, once the client said `exit` or the input ended: 0 if the client asked for `shutdown` before it said `exit`,
     /// and else 1 (Language Server Protocol 3.17, "Exit Notification").
     pub fn has_ended(&self) -> Option<u8>
         ensures { IfSome result (λ status. status ≤ 1) }

@@ -217,21 +217,24 @@ impl Session {
     ) -> Outcome<'a> {
         match index_of(self.texts.as_slice(), query.uri) {
             Some(index) => {
+                let text = &self.texts[index];
                 let asked = Asked {
                     alloc: self.alloc,
                     client: &self.client,
                     uri: query.uri,
-                    text: &self.texts[index],
+                    said: text.said,
+                    document: &text.document,
                 };
                 asked.answer(id, query, &mut self.outbox)?;
             }
             None => {
-                let text = closed_text(self.alloc, files, query.uri)?;
+                let document = closed_text(self.alloc, files, query.uri)?;
                 let asked = Asked {
                     alloc: self.alloc,
                     client: &self.client,
                     uri: query.uri,
-                    text: &text,
+                    said: None,
+                    document: &document,
                 };
                 asked.answer(id, query, &mut self.outbox)?;
             }
@@ -408,12 +411,13 @@ impl Session {
             alloc: self.alloc,
             client: &self.client,
             uri: text.uri.as_str(),
-            text,
+            said: text.said,
+            document: &text.document,
         };
         let diagnostics = asked.diagnostics()?;
         let _ = self.outbox.publish(
             asked.uri,
-            asked.text.version,
+            text.version,
             diagnostics.as_slice(),
             &self.client,
         );

@@ -28,7 +28,7 @@ pub struct OpenText {
 impl OpenText {
     /// A text that is opened.
     ///
-    /// It fails only where memory runs out.
+    /// It fails only if memory runs out.
     pub fn new(alloc: Global, opened: &Opened<'_>) -> Result<OpenText, AllocError> {
         let Opened {
             uri,
@@ -81,7 +81,7 @@ pub struct Change<'a> {
 /// Notification"). A position that isn't one of the text is taken as `text_edits` says; the answer is how many changes have one
 /// beyond the last line, or inside of a character.
 ///
-/// It fails only where memory runs out, and then only some of the changes may be made.
+/// It fails only if memory runs out, and then only some of the changes may be made.
 pub fn change_all(
     alloc: Global,
     encoding: Encoding,

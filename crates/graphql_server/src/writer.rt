@@ -23,7 +23,7 @@ impl JsonWriter {
 
     /// The text, with the end of the object that it is.
     ///
-    /// It fails only where memory has run out.
+    /// It fails only if memory has run out.
     pub fn finish(self) -> Result<Vec<u8>, AllocError> {
         let mut json = self;
         json.end_object();
