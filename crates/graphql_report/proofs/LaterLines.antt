@@ -7,13 +7,13 @@ use Rattle.std.proofs.lemmas.List.Sums.{sum_by-append, sum_by-cons}
 use Rattle.std.proofs.lemmas.Str.{chars-nil, chars-append, encode_ascii, IsCharBoundary-start, encodes-chars, inside_one, IsUtf8-take, IsUtf8-drop}
 use Rattle.std.specs.Char.{encode_utf8}
 use Rattle.std.specs.List.{count_by}
-use Rattle.std.specs.Str.{chars, IsCharBoundary, IsUtf8, encode_utf8_all}
+use Rattle.std.specs.Str.{chars, IsAscii, IsCharBoundary, IsUtf8, encode_utf8_all}
 use Rattle.graphql_tokens.specs.declared.pos.Pos.{Pos}
-use Rattle.graphql_tokens.specs.tokens.Place.{is_line_feed, place, place_after}
+use Rattle.graphql_tokens.specs.tokens.Place.{is_in_line, is_line_feed, place, place_after}
 use Rattle.graphql_tokens.proofs.Places.{column_push, line_bound}
 use Rattle.graphql_tokens.proofs.Chars.{length-chars}
-use Rattle.graphql_report.specs.fronts.Front.{LastIsLineFeed}
 use Rattle.graphql_report.specs.reports.Rests.{BeginsAt}
+use Rattle.graphql_report.proofs.Buffers.{last-char}
 
 pub begins-at-top : (text : List ℕ) → IsUtf8 text → BeginsAt text (record { offset = 0; line = 1 })
 begins-at-top text u = (IsCharBoundary-start text u, ap place_after chars-nil)
@@ -49,8 +49,10 @@ feeds-chars bs u = sym (ap (λ (x : List ℕ). count_by is_line_feed x) (encodes
 line-later : (before passed : List ℕ) → IsUtf8 before → IsUtf8 passed → (place_after (chars (before ++ passed))).line ≡ (place_after (chars before)).line + count_by is_line_feed passed
 line-later before passed u v = ap (λ (x : List ℕ). (place_after x).line) (chars-append before passed u) ∙ omega (arith, sum_by-append (λ x. cond (is_line_feed x) 1 0) (chars before) (chars passed), feeds-chars passed v)
 
-column-first : (text : List ℕ) → LastIsLineFeed text → (place_after text).column ≡ 1
-column-first text last = ap (λ (x : List ℕ). (place_after x).column) last.is ∙ column_push last.before 10
+-- a text that ends in a line feed or a carriage return
+pub column-first : (text front : List ℕ) (c : ℕ) → IsAscii (c ∷ []) → is_in_line c ≡ false → IsUtf8 text → text ≡ front ++ c ∷ [] → (place_after (chars text)).column ≡ 1
+column-first text front c ascii ends utf8 is =
+    ap (λ (x : List ℕ). (place_after x).column) (last-char text front c ascii utf8 is) ∙ column_push (chars front) c ∙ ap {B = ℕ} (λ b. cond b ((place_after (chars front)).column + 1) 1) ends
 
 -- from a line on, whose number is known, over a part of a text that ends in a line feed
 pub record Passes (text front passed : List ℕ) (from offset first : ℕ) : Type 0 where
@@ -80,10 +82,10 @@ pub line-fits : (text front passed : List ℕ) (from offset first feeds : ℕ) �
 line-fits text front passed from offset first feeds p is short =
     omega (arith, line-there text front passed from offset first p, is, line_bound (chars front), length-chars front (front-utf8 p), short)
 
-pub begins-there : (text front passed : List ℕ) (from offset first feeds : ℕ) → Passes text front passed from offset first → feeds ≡ count_by is_line_feed passed → LastIsLineFeed (chars front)
+pub begins-there : (text front passed : List ℕ) (from offset first feeds : ℕ) → Passes text front passed from offset first → feeds ≡ count_by is_line_feed passed → (place_after (chars front)).column ≡ 1
     → ◌≡◌ {A = Pos} (place text offset) (record { line = first + feeds; column = 1 })
 begins-there text front passed from offset first feeds p is last =
     let line : (place_after (chars front)).line ≡ first + feeds = omega (arith, line-there text front passed from offset first p, is) in
     ap (λ (x : List ℕ). place_after (chars x)) (sym p.front_is)
     ∙ ap {B = Pos} (λ n. record { line = n; column = (place_after (chars front)).column }) line
-    ∙ ap {B = Pos} (λ n. record { line = first + feeds; column = n }) (column-first (chars front) last)
+    ∙ ap {B = Pos} (λ n. record { line = first + feeds; column = n }) last

@@ -3,8 +3,7 @@
 ghost use Rattle.std.specs.Prelude.{◌≡◌, ◌+◌, ◌<◌, ◌^◌, ◌-◌, take, drop, IsTrue, IfSome};
 ghost use Rattle.std.specs.List.{count_by};
 ghost use Rattle.std.specs.Str.{chars, IsCharBoundary};
-ghost use Rattle.graphql_tokens.specs.tokens.Place.{is_line_feed};
-ghost use Rattle.graphql_report.specs.fronts.Front.{LastIsLineFeed};
+ghost use Rattle.graphql_tokens.specs.tokens.Place.{is_line_feed, place_after};
 ghost use Rattle.graphql_report.specs.reports.Refused.{IsItsToken};
 ghost use Rattle.graphql_report.specs.reports.Rests.{BeginsAt, IsMoved, top};
 
@@ -73,13 +72,16 @@ impl ReadFrom {
     }
 }
 
-// Whether the last character is a line feed.
+// Whether the last character is a line feed, or a carriage return, after which the columns begin anew.
 fn ends_line(text: &str) -> bool
-    ensures { IsTrue result → LastIsLineFeed (chars text.now) }
+    ensures { IsTrue result → (place_after (chars text.now)).column ≡ 1 }
 {
     match text.strip_suffix('\n') {
         Some(_) => true,
-        None => false,
+        None => match text.strip_suffix('\r') {
+            Some(_) => true,
+            None => false,
+        },
     }
 }
 
