@@ -50,12 +50,7 @@ fn first_fix(
     None
 }
 
-fn fix_of(
-    shown: &mut Shown,
-    language: Language,
-    text: &str,
-    diagnosis: &Diagnosis,
-) -> Option<Fix> {
+fn fix_of(shown: &mut Shown, language: Language, text: &str, diagnosis: &Diagnosis) -> Option<Fix> {
     match diagnosis.fix(shown.alloc(), language, text, Limits::default()) {
         Ok(fix) => fix,
         Err(_) => {

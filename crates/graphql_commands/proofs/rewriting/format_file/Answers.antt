@@ -14,9 +14,12 @@ of-text : {T : Type 0} (gives : T → List ℕ → Result (String Global) Unread
     → text ≡ string_bytes read → said ≡ Ok read → gives here name said next
     → ((next ≡ there) × (IsBlank text ⊎ IsLaidOut text text)) ⊎ ((new : List ℕ) × IsAnew limits text new × puts next name new (Ok tt) there)
     → LeavesLaidOut gives puts limits here name there
-of-text {T} gives puts limits here name next there said read text same is given done =
-    (Ok read, next, subst (λ (r : Result (String Global) Unread). gives here name r next) is given,
-    subst (λ (t : List ℕ). ((next ≡ there) × (IsBlank t ⊎ IsLaidOut t t)) ⊎ ((new : List ℕ) × IsAnew limits t new × puts next name new (Ok tt) there)) same done)
+of-text {T} gives puts limits here name next there said read text same is given done = (
+  Ok read,
+  next,
+  subst (λ (r : Result (String Global) Unread). gives here name r next) is given,
+  subst (λ (t : List ℕ). ((next ≡ there) × (IsBlank t ⊎ IsLaidOut t t)) ⊎ ((new : List ℕ) × IsAnew limits t new × puts next name new (Ok tt) there)) same done,
+)
 
 pub returns-in-Ok-clause-laid_out : goal.returns-in-Ok-clause-laid_out
 returns-in-Ok-clause-laid_out g c = λ none. of-text g.T.Texts.gives g.T.Texts.puts c.args.call.now.limits c.args.texts.now c.args.name.now c.text.new.self c.format_text.new.texts c.text.result c.in-Ok.text c.as_str.result.now
