@@ -19,7 +19,7 @@ def compiled(crate, file):
         with open(Path(folder, "said"), "w+b") as said:
             tried = subprocess.Popen(words, cwd=CRATES / crate, env={**os.environ, "TMPDIR": str(made)},
                                      stdin=subprocess.DEVNULL, stdout=subprocess.DEVNULL, stderr=said)
-            while not (is_copied := any(is_whole(each, file) for each in made.rglob("program"))) and tried.poll() is None:
+            while not (is_copied := is_found(made, file)) and tried.poll() is None:
                 time.sleep(0.05)
             tried.terminate()
             tried.wait()
@@ -27,6 +27,14 @@ def compiled(crate, file):
             if not is_copied:
                 print(said.read().decode(errors="replace"))
             return is_copied
+
+
+def is_found(made, file):
+    """Copies the program that stands below this folder. Returns whether there is one that runs; folders may go meanwhile."""
+    try:
+        return any(is_whole(each, file) for each in made.rglob("program"))
+    except FileNotFoundError:
+        return False
 
 
 def is_whole(program, file):
