@@ -77,19 +77,13 @@ fn write_definition(
     let Some(new) = formatted(asked.alloc, language, old)? else {
         return Ok(());
     };
-    let new = with_line_end(
-        asked.alloc,
-        new.as_str().trim_end_matches('\n'),
-        line_end_of(asked.text()),
-    )?;
-    write_edits(
-        asked.alloc,
-        places,
-        definition.start,
-        old,
-        new.as_str(),
-        json,
-    )
+    let line_end = line_end_of(asked.text());
+    let new = with_line_end(asked.alloc, new.as_str(), line_end)?;
+    let new = match new.strip_suffix(line_end) {
+        Some(new) => new,
+        None => new.as_str(),
+    };
+    write_edits(asked.alloc, places, definition.start, old, new, json)
 }
 
 // The text laid out anew, if it is good.
