@@ -185,8 +185,9 @@ typedef struct {
 /* The same as a check and a parse, within a budget.
  *
  * memory                   how many bytes reading the text may take, by this count: those of each block that is asked for; of a
- *                          block that grows those that are added, though both blocks are held while it moves; of each named
- *                          operation or fragment its name's and its node's and 16 more, whatever blocks their maps ask for.
+ *                          block that grows those that are added, though both blocks are held while it moves; of each entry of
+ *                          a map, of named operations, fragments or the fields of an object that repeats one, its key's and
+ *                          value's and 16 more, whatever blocks the map asks for.
  *                          Freed bytes still count. A list that moves into a block of just its length, the JSON and what
  *                          writing it takes don't.
  * left                     must not be null.
