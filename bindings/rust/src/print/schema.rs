@@ -186,12 +186,12 @@ mod tests {
     #[test]
     fn a_block_string_has_the_values_that_keep_their_lines() {
         for text in [
-            "a", " a", "\ta\"", "a\\", "\"\"\"", "a\nb", "a\n\n  b", " a\nb", "a\n b", "é\u{7}",
+            "a", " a", "\ta\"", "a\\", "\"\"\"", "a\nb", "a\n\n  b", " a\nb", "a\n b", "é",
         ] {
             assert!(is_in_block(text), "{text:?}");
         }
         for text in [
-            "", " ", "\t", "\n", "a\n", "a\n ", "\na", " \na", " a\n b", "a\r", "a\r\nb",
+            "", " ", "\t", "\n", "a\n", "a\n ", "\na", " \na", " a\n b", "a\r", "a\r\nb", "é\u{7}",
         ] {
             assert!(!is_in_block(text), "{text:?}");
         }
