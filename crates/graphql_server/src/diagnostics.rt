@@ -25,6 +25,19 @@ pub fn range_of(encoding: Encoding, document: &Document, start: usize, end: usiz
     }
 }
 
+/// All that is wrong with a text that is read as this language.
+///
+/// It fails only if memory runs out.
+pub fn found_in(
+    alloc: Global,
+    language: Language,
+    document: &Document,
+) -> Result<Vec<Diagnosis>, AllocError>
+    ensures { IfOk result (λ found. found.items ≡ [] → IsGoodText true language default_limits document.now) }
+{
+    diagnoses_of(alloc, language, document.text(), Limits::default())
+}
+
 /// The diagnostics of a text that is read as this language, each with the range of what is refused, and, for a name that is defined
 /// twice, with the place of the other definition, or, for a bracket that isn't closed, with that of the bracket. They are made from
 /// this text alone, and there is none only if the text is good.
@@ -40,8 +53,7 @@ pub fn diagnostics_of<'a>(
     ensures good { IfOk result (λ told. told.items ≡ [] → IsGoodText true language default_limits document.now) }
     ensures ranges { IfOk result (λ told. All (IsDiagnosticOf encoding document.now) told.items) }
 {
-    let text = document.text();
-    let found = diagnoses_of(alloc, language, text, Limits::default())?;
+    let found = found_in(alloc, language, document)?;
     let diagnostics = shown(alloc, uri, language, encoding, document, found)?;
     Ok(diagnostics)
 }

@@ -1,12 +1,12 @@
 //! What mends a text (Language Server Protocol 3.17, "Code Action Request").
 
-use crate::diagnostics::{diagnostic_of, other_of, range_of};
+use crate::diagnostics::{diagnostic_of, found_in, other_of, range_of};
 use crate::line_ends::{line_end_of, with_line_end};
 use crate::messages::{write_diagnostic, write_edit};
 use crate::results::Asked;
 use crate::writer::JsonWriter;
 use graphql_parser::Limits;
-use graphql_texts::{Diagnosis, Fix, Language, Other, diagnoses_of};
+use graphql_texts::{Diagnosis, Fix, Language, Other};
 use std::alloc::AllocError;
 use text_edits::Range;
 
@@ -24,7 +24,7 @@ pub fn write_fixes(
 ) -> Result<(), AllocError> {
     let language = asked.language()?;
     json.begin_list();
-    for diagnosis in diagnoses_of(asked.alloc, language, asked.text(), Limits::default())? {
+    for diagnosis in found_in(asked.alloc, language, asked.document)? {
         let other = other_of(asked.alloc, language, asked.text(), &diagnosis)?;
         if touches(asked, range, &diagnosis, other) {
             write_action(asked, language, diagnosis, other, json)?;

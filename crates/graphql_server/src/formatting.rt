@@ -79,11 +79,19 @@ fn write_definition(
     };
     let line_end = line_end_of(asked.text());
     let new = with_line_end(asked.alloc, new.as_str(), line_end)?;
-    let new = match new.strip_suffix(line_end) {
-        Some(new) => new,
-        None => new.as_str(),
-    };
-    write_edits(asked.alloc, places, definition.start, old, new, json)
+    write_edits(
+        asked.alloc,
+        places,
+        definition.start,
+        old,
+        without_end(new.as_str(), line_end),
+        json,
+    )
+}
+
+// A text without the end of its last line.
+fn without_end<'a>(text: &'a str, line_end: &str) -> &'a str {
+    text.strip_suffix(line_end).unwrap_or(text)
 }
 
 // The text laid out anew, if it is good.
