@@ -10,8 +10,8 @@ from pathlib import Path
 
 PAGE = resource.getpagesize()
 FILES = 12
-# A file's length is so many times its number.
-GROWTH = 6_000
+# How long the first file is at least, and by how much each is longer than the one before.
+LENGTH, GROWTH = 40_000, 9_000
 # The heap grows by what is asked for, and no more.
 ENVIRONMENT = {"GLIBC_TUNABLES": "glibc.malloc.top_pad=0"}
 
@@ -41,7 +41,7 @@ def main(program):
     with tempfile.TemporaryDirectory() as folder:
         names = [f"{number:02}.graphql" for number in range(1, FILES + 1)]
         for number, name in enumerate(names, 1):
-            Path(folder, name).write_text("{" + "a " * (GROWTH * number // 2) + "\n")
+            Path(folder, name).write_text("{" + "a " * ((LENGTH + GROWTH * number) // 2) + "\n")
         words = [program, "check", "--color", "never", *names]
         whole = run(words, folder)
         reports = re.split(rb"(?m)^(?=\d\d\.graphql:)", whole[1])[1:]
