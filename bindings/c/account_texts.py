@@ -9,8 +9,10 @@ from pathlib import Path
 ROOT = Path(__file__).resolve().parents[2]
 sys.path.insert(0, str(ROOT / "tests"))
 from random_texts import SEED, Source
-from tables import lines_in
+from tables import rows_of
 
+# The calls of tables whose rows have documents.
+CALLS = ("query", "schema", "report", "formatted", "minified", "printed", "json", "gql")
 COUNT = 500
 LONGEST = 100_000
 
@@ -18,10 +20,9 @@ LONGEST = 100_000
 def texts():
     for folder in (ROOT / "crates/conformance/data/tables", ROOT / "tests/tables"):
         for file in sorted(folder.glob("*.rows")):
-            for number, table in enumerate(file.read_text().removeprefix("== ").split("\n== ")):
-                call, _, rows = table.partition("\n")
-                if call.split(" ")[0] in ("query", "schema", "report", "formatted", "minified", "printed", "json", "gql"):
-                    read = (row.text.encode(errors="surrogatepass") for row in lines_in(file, number, call, rows))
+            for call, rows in rows_of(file):
+                if call.split(" ")[0] in CALLS:
+                    read = (row.text.encode(errors="surrogatepass") for row in rows)
                     yield from (text for text in read if len(text) <= LONGEST)
     yield (ROOT / "bench/merged.graphqls").read_bytes()
     for language in ("query", "schema"):
