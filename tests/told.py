@@ -284,18 +284,20 @@ class Parsed:
         self.complaints_fail(reads or NEVER, writes or NEVER, ended)
 
 
+def asked_of_gqlparse(row):
+    """The arguments of a run, and its input."""
+    head, line = row.split("\n")[:2]
+    given = bytes.fromhex(line[2:]) if line.startswith("x ") else meant(line[2:]).encode() if line.startswith("< ") else b""
+    return [meant(word) for word in head.split()[1:]], given
+
+
 @one_by_one
 def run_of_gqlparse(programs, _, row):
     """The row that is made by the runs whose arguments and input are those of this one. Where `*` stands before the arguments, each read
     and each write fails in turn, too, and the last line has the number of all these runs."""
-    head, _, rest = row.partition("\n")
-    line = rest.split("\n")[0]
-    given = b""
-    if line.startswith("< "):
-        given = meant(line[2:]).encode()
-    elif line.startswith("x "):
-        given = bytes.fromhex(line[2:])
-    parsed = Parsed(programs.gqlparse, [meant(word) for word in head.split()[1:]], given)
+    head, line = row.split("\n")[:2]
+    words, given = asked_of_gqlparse(row)
+    parsed = Parsed(programs.gqlparse, words, given)
     ended = parsed.run()
     status, out, err = ended
     shown = f"{head}\n" + (f"{line}\n" if line[:1] in ("<", "x") else "")

@@ -10,7 +10,6 @@ mod answers;
 mod calls;
 mod free;
 mod inputs;
-mod listing;
 mod little_memory;
 mod row;
 mod trees;

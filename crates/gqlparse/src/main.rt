@@ -9,7 +9,10 @@
 //! standard output. The lines themselves are tested.
 #![tactic(auto)]
 
-use graphql_listing::{out_of_memory, run};
+mod lines;
+mod program;
+
+use program::{out_of_memory, run};
 use std::io::ErrorKind;
 use std::process::ExitCode;
 use std::{env, io};

@@ -1,6 +1,5 @@
 //! What calls are given besides a text. It is made while there is memory.
 use super::calls::Text;
-use super::listing::try_listing;
 use super::row::Row;
 use super::trying::try_call;
 use crate::parser::{constant_directive, constant_of};
@@ -30,7 +29,6 @@ pub fn try_row(row: &Row<'_>, shown: &mut Shown) -> bool {
             }
             Err(_) => false,
         },
-        "listing" => try_listing(row, shown),
         _ => try_query(row, shown),
     }
 }

@@ -41,7 +41,7 @@ fn made_once(alloc: Global, row: &Row<'_>, answer: &str) -> &'static str {
     }
     match row.end(answer, shown.whole().unwrap_or("no room")) {
         End::Answered => "answered",
-        End::Refused | End::RefusedOutside => REFUSED,
+        End::Refused => REFUSED,
         End::Other => "another end",
     }
 }
@@ -72,7 +72,6 @@ fn try_at_end<I: Input>(row: &Row<'_>, input: I, shown: &mut Shown) {
                 room,
                 answered: 0,
                 refused: 0,
-                refused_outside: 0,
                 has_other: false,
             };
             show_fault(tried, shown);
@@ -104,7 +103,6 @@ struct Tried<'a, I> {
     room: Shown,
     answered: usize,
     refused: usize,
-    refused_outside: usize,
     has_other: bool,
 }
 
@@ -121,10 +119,8 @@ impl<I: Input> Tried<'_, I> {
             Some("another end")
         } else if self.answered == 0 {
             Some("never answered, but")
-        } else if self.row.is_refused() && self.refused == 0 {
+        } else if !self.row.is_free && self.refused == 0 {
             Some("never refused memory, but")
-        } else if self.row.is_listing() && self.refused_outside == 0 {
-            Some("never refused memory outside of the parser, but")
         } else {
             None
         }
@@ -142,7 +138,6 @@ impl<I: Input> Attempt for Tried<'_, I> {
         match self.end() {
             End::Answered => self.answered = self.answered.saturating_add(1),
             End::Refused => self.refused = self.refused.saturating_add(1),
-            End::RefusedOutside => self.refused_outside = self.refused_outside.saturating_add(1),
             End::Other => self.has_other = true,
         }
     }

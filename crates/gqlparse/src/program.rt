@@ -1,8 +1,8 @@
 //! The program's work, over any reader and writers.
 ghost use Rattle.std.specs.Prelude.{◌≡◌, ◌≢◌, ◌≤◌, ◌↔◌, ◌⊎◌, Ok, Err, IsSome, IsTrue, IfErr, IfOk, IfSome, codes, map, string_bytes};
-ghost use Rattle.graphql_listing.specs.Words.{IsServed, AsksForHelp};
-ghost use Rattle.graphql_listing.specs.declared.program.Answer.TheVariants.{Help};
-ghost use Rattle.graphql_listing.specs.declared.program.Stop.TheVariants.{NoMemory, Usage};
+ghost use Rattle.gqlparse.specs.Words.{IsServed, AsksForHelp};
+ghost use Rattle.gqlparse.specs.declared.program.Answer.TheVariants.{Help};
+ghost use Rattle.gqlparse.specs.declared.program.Stop.TheVariants.{NoMemory, Usage};
 
 use crate::lines::{request_lines, schema_lines};
 use graphql_grammar::error::Error;
