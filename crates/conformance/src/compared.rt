@@ -1,5 +1,5 @@
 //! What is asked of values of many types: copies, hashes, comparisons.
-use crate::rows::Shown;
+use rows::Shown;
 use std::alloc::AllocError;
 use std::hash::{DefaultHasher, Hash, Hasher};
 

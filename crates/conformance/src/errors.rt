@@ -1,9 +1,8 @@
 //! Errors: what they print, and the places that they name.
-use crate::parser::write_error;
-use crate::rows::{Shown, pair};
 use graphql_parser::types::OperationType;
 use graphql_parser::value::Name;
 use graphql_parser::{Error, ErrorPositions, Pos};
+use rows::{Shown, pair, write_error};
 use std::alloc::{AllocError, Global};
 
 const A: Pos = Pos { line: 1, column: 2 };
@@ -11,11 +10,6 @@ const A: Pos = Pos { line: 1, column: 2 };
 const B: Pos = Pos { line: 3, column: 4 };
 
 const C: Pos = Pos { line: 1, column: 5 };
-
-const FAR: Pos = Pos {
-    line: usize::MAX,
-    column: 0,
-};
 
 /// Writes what is said of the errors that a row names.
 ///
@@ -51,8 +45,8 @@ fn write_part_of(shown: &mut Shown, part: &str, error: &Error, rest: &str) {
     }
 }
 
-/// The error of this name.
-pub fn named(alloc: Global, what: &str) -> Option<Error> {
+// The error of this name.
+fn named(alloc: Global, what: &str) -> Option<Error> {
     Some(match what {
         "queries" => several_roots(OperationType::Query),
         "mutations" => several_roots(OperationType::Mutation),
@@ -94,7 +88,6 @@ fn syntax_named(alloc: Global, what: &str) -> Option<Error> {
         "syntax" => ("syntax error at 1:2", None),
         "syntax with an end" => ("syntax error at 1:2", Some(B)),
         "syntax with another end" => ("syntax error at 1:2", Some(C)),
-        "syntax with a far end" => ("no \"a\"\nbut a \\", Some(FAR)),
         "syntax with a message" => ("no\n\u{e9}", None),
         "syntax without a message" => ("", None),
         _ => return None,

@@ -1,11 +1,11 @@
 //! What the calls of `example_checker` return.
-use crate::rows::Shown;
 use example_checker::{
     Fault, Refusal, cost_within, fields_of, first_fault, first_unnamed, is_silently_deprecated,
     is_spread,
 };
 use graphql_parser::types::{ExecutableDocument, ServiceDocument};
 use graphql_parser::{Error, parse_query, parse_schema};
+use rows::Shown;
 
 /// Writes what a request costs if that is at most the limit, or why it is refused, and then what is wrong with it, each after its
 /// place. `schema` asks for what is wrong with a schema file.

@@ -1,8 +1,8 @@
 //! Schema files of the length that people keep: a line for each definition, and places and contents inside.
-use crate::rows::{Shown, meant, pair};
 use crate::trees::{Written, keyword};
 use graphql_parser::types::{ServiceDocument, TypeSystemDefinition};
 use graphql_parser::{check_schema, parse_schema};
+use rows::{Shown, meant, pair};
 
 /// Writes the definitions of a file, and those of the parts that are not in its tree. The parts stand after the file, a line
 /// each.

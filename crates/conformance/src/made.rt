@@ -1,13 +1,7 @@
-//! Values that programs make: limits, sets of selections, places of directives, trees.
-use crate::parser::limits_of;
-use crate::rows::Shown;
-use graphql_parser::types::{
-    DirectiveLocation, SelectionSet, ServiceDocument, TypeDefinition, TypeKind,
-    TypeSystemDefinition,
-};
-use graphql_parser::value::Name;
-use graphql_parser::{Limits, Pos, Positioned};
-use std::alloc::Global;
+//! Values that programs make: limits, sets of selections, places of directives.
+use graphql_parser::Limits;
+use graphql_parser::types::{DirectiveLocation, SelectionSet};
+use rows::{Shown, limits_of};
 
 /// Writes what is said of a value that a program makes.
 ///
@@ -43,23 +37,6 @@ fn write_limits(shown: &mut Shown, limits: Limits) {
     if copy != limits {
         shown.word(" with another copy");
     }
-}
-
-/// A file of one scalar with this name, which stands somewhere, and its name nowhere.
-pub fn lone_type(alloc: Global, name: &str) -> Option<ServiceDocument> {
-    let definition = TypeDefinition {
-        extend: false,
-        description: None,
-        name: Positioned::new(Name::new(alloc, name).ok()?, Pos::default()),
-        directives: Vec::new(alloc),
-        kind: TypeKind::Scalar,
-    };
-    let place = Pos { line: 0, column: 1 };
-    let mut definitions = Vec::new(alloc);
-    definitions
-        .push(TypeSystemDefinition::TypeDef(Positioned::new(definition, place)))
-        .ok()?;
-    Some(ServiceDocument { definitions })
 }
 
 /// The places where directives may stand, in requests and then in schema files.

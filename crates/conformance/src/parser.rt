@@ -3,13 +3,9 @@
 mod answers;
 mod asked;
 mod budgets;
-mod errors;
 mod hostile;
 mod taken;
 mod views;
 
-pub use answers::{OTHERWISE, Parser};
-pub use asked::{limits_of, write_asked};
-pub use budgets::refused_within;
-pub use errors::write_error;
+pub use asked::write_asked;
 pub use views::{constant_directive, constant_of};

@@ -1,9 +1,5 @@
-//! What stands below the parsers: tokens, places, names, numbers, what strings mean, types and values, the readers of values at a
-//! third type of values, block strings, positions of editors and edits, and what an editor asks of a text.
-mod blocks;
-mod cuts;
-mod editor;
-mod edits;
+//! What stands below the parsers: tokens, places, names, numbers, what strings mean, types and values, and the readers of values at a
+//! third type of values.
 mod literals_made;
 mod literals_read;
 mod names;
@@ -14,9 +10,8 @@ mod tokens;
 mod type_texts;
 mod written;
 
-use crate::rows::Shown;
-pub use edits::document_of;
 use graphql_tokens::text::{block_string_value, string_value};
+use rows::Shown;
 
 /// Writes what the call of this name makes of a text.
 pub fn answer(shown: &mut Shown, call: &str, text: &str) {
@@ -41,13 +36,7 @@ pub fn answer(shown: &mut Shown, call: &str, text: &str) {
         "type" => type_texts::write_read(shown, text),
         "types compared" => type_texts::write_comparison(shown, text),
         "value made" => literals_made::write_value(shown, text),
-        "block string written" => blocks::write_block(shown, text),
-        "sheet" => blocks::write_sheet(shown, text),
-        "cuts" => cuts::write_cuts(shown, text),
         call => match call.split_once(' ') {
-            Some(("text", what)) => edits::write_answer(shown, what, text),
-            Some(("editor", what)) => editor::write_listed(shown, what, text),
-            Some(("at", what)) => editor::write_at_offset(shown, what, text),
             Some(("value", what)) => literals_read::write_read(shown, what, text),
             _ => written::write_read_back(shown, call, text),
         },

@@ -1,9 +1,9 @@
 //! The examples that docs/USING.md names.
-use crate::rows::Shown;
 use graphql_parser::types::{
     ExecutableDocument, Selection, ServiceDocument, TypeKind, TypeSystemDefinition,
 };
 use graphql_parser::{Error, parse_query, parse_schema};
+use rows::Shown;
 use std::alloc::{AllocError, Global};
 
 /// Writes what an example makes of a text, in one line: the outline of a request, or the types of a schema file that implement

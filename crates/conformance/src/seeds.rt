@@ -1,8 +1,8 @@
 //! How the maps of a request hash: by a seed that each name of a definition changes, where the definitions are many.
-use crate::rows::Shown;
 use graphql_parser::types::{DocumentOperations, ExecutableDocument, NameMap, NameSeed};
 use graphql_parser::value::Name;
 use graphql_parser::{IndexMap, parse_query};
+use rows::Shown;
 use std::alloc::{AllocError, Global};
 
 /// Writes what is said of the seeds of requests with this many definitions.

@@ -1,9 +1,8 @@
 //! What is asked of a parser in a table.
-use super::answers::Parser;
+use super::answers::{write, write_each_call, write_limited};
 use super::views::VIEWS;
 use super::{budgets, hostile, taken};
-use crate::rows::{Shown, pair, three_numbers};
-use graphql_parser::Limits;
+use rows::{Parser, Shown, limits_of, pair};
 
 /// Writes what a parser returns that is asked so.
 ///
@@ -24,10 +23,10 @@ use graphql_parser::Limits;
 ///   between them.
 pub fn write_asked(shown: &mut Shown, parser: Parser, asked: &str, text: &str) {
     match asked {
-        "whole" | "accepted" => parser.write_each_call(shown, asked, text),
+        "whole" | "accepted" => write_each_call(shown, parser, asked, text),
         "taken" => taken::write_counted(shown, parser, "accepted", text),
         "in turn" => write_in_turn(shown, parser, text),
-        "limited" => write_limited(shown, parser, text),
+        "limited" => write_within(shown, parser, text),
         "budgets" => budgets::write_answers(shown, parser, text),
         "beginnings" => hostile::write_beginnings(shown, parser, text),
         "cuts" => hostile::write_cuts(shown, parser, text),
@@ -36,7 +35,7 @@ pub fn write_asked(shown: &mut Shown, parser: Parser, asked: &str, text: &str) {
         "short texts" => hostile::write_short_texts(shown, parser, text),
         view if VIEWS.contains(&view) => {
             let (asked, text) = pair(text, " in ");
-            parser.write(shown, view, asked, text);
+            write(shown, parser, view, asked, text);
         }
         _ => shown.word("no such call"),
     }
@@ -50,16 +49,10 @@ fn write_in_turn(shown: &mut Shown, parser: Parser, text: &str) {
     }
 }
 
-fn write_limited(shown: &mut Shown, parser: Parser, text: &str) {
+fn write_within(shown: &mut Shown, parser: Parser, text: &str) {
     let (limits, text) = pair(text, " in ");
     match limits_of(limits) {
-        Some(limits) => parser.write_limited(shown, "accepted", text, limits),
+        Some(limits) => write_limited(shown, parser, "accepted", text, limits),
         None => shown.word("no such limits"),
     }
-}
-
-/// The limits of three numbers in one text.
-pub fn limits_of(text: &str) -> Option<Limits> {
-    let (selections, values, types) = three_numbers(text)?;
-    Limits::new(selections, values, types)
 }

@@ -1,11 +1,6 @@
 //! What a parser and its check answer where they may take only so much memory.
-use super::answers::Parser;
-use super::errors::write_error;
-use crate::rows::Shown;
-use graphql_parser::{
-    Error, Limits, Memory, check_query_within, check_schema_within, parse_query_within,
-    parse_schema_within,
-};
+use graphql_parser::{Error, Memory};
+use rows::{Parser, Shown, refused_within, write_error};
 
 // How many steps a budget grows by, and how many bytes each of them is: 64 KiB in all.
 const STEPS: usize = 1024;
@@ -50,21 +45,5 @@ fn write_within(shown: &mut Shown, parser: Parser, is_check: bool, budget: usize
         None => shown.word("accepted"),
         Some(Error::OutOfMemory) if promised <= budget => shown.word("enough is too little"),
         Some(error) => write_error(shown, error),
-    }
-}
-
-/// The error of a parser or of its check within a budget and the default limits, if it returns one.
-pub fn refused_within(
-    memory: &mut Memory,
-    parser: Parser,
-    is_check: bool,
-    text: &str,
-) -> Option<Error> {
-    let limits = Limits::default();
-    match parser {
-        Parser::Query if is_check => check_query_within(memory, text, limits).err(),
-        Parser::Query => parse_query_within(memory, text, limits).err(),
-        Parser::Schema if is_check => check_schema_within(memory, text, limits).err(),
-        Parser::Schema => parse_schema_within(memory, text, limits).err(),
     }
 }

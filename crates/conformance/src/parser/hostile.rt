@@ -1,9 +1,9 @@
 //! Cut texts, open quotes, other blanks, and every short list of tokens.
-use super::answers::Parser;
+use super::answers::{write, write_each_call};
 use super::taken::write_counted;
-use crate::rows::Shown;
 use graphql_parser::Pos;
 use graphql_parser::lexer::{TokenKind, Tokens};
+use rows::{Parser, Shown};
 
 fn is_refused_at(answer: &Shown, place: Pos) -> bool {
     let mut wanted = Shown::new(answer.alloc(), true);
@@ -27,7 +27,7 @@ pub fn write_beginnings(shown: &mut Shown, parser: Parser, text: &str) {
 
 fn write_unless_late(shown: &mut Shown, parser: Parser, text: &str) {
     let mut answer = Shown::new(shown.alloc(), true);
-    parser.write(&mut answer, "accepted", "", text);
+    write(&mut answer, parser, "accepted", "", text);
     let (mut before, mut last) = (Pos::default(), Pos::default());
     for token in Tokens::new(text) {
         before = last;
@@ -62,7 +62,7 @@ pub fn write_cuts(shown: &mut Shown, parser: Parser, text: &str) {
 
 fn write_cut(shown: &mut Shown, parser: Parser, front: &str, count: usize) {
     let mut answer = Shown::new(shown.alloc(), true);
-    parser.write_each_call(&mut answer, "accepted", front);
+    write_each_call(&mut answer, parser, "accepted", front);
     let end = Pos {
         line: 1,
         column: front.chars().count().wrapping_add(1),
@@ -95,7 +95,13 @@ fn write_unless_at_quote(shown: &mut Shown, parser: Parser, text: &str, offset: 
     quoted.item(front, &'"');
     quoted.word(back);
     let mut answer = Shown::new(shown.alloc(), true);
-    parser.write(&mut answer, "accepted", "", quoted.whole().unwrap_or(""));
+    write(
+        &mut answer,
+        parser,
+        "accepted",
+        "",
+        quoted.whole().unwrap_or(""),
+    );
     if !is_refused_at(&answer, place) {
         shown.item(quoted.whole().unwrap_or("out of memory"), &": ");
     }
@@ -160,7 +166,13 @@ fn is_taken(
     let mut text = Shown::new(shown.alloc(), true);
     write_spelled(&mut text, spellings, length, index);
     let mut answer = Shown::new(shown.alloc(), true);
-    parser.write(&mut answer, "accepted", "", text.whole().unwrap_or(""));
+    write(
+        &mut answer,
+        parser,
+        "accepted",
+        "",
+        text.whole().unwrap_or(""),
+    );
     match (text.whole(), answer.whole()) {
         (Some(_), Some("accepted")) => Some(true),
         (Some(_), Some(words)) if words.starts_with("syntax") => Some(false),

@@ -1,9 +1,9 @@
 //! How many tokens a parser takes of those that it is handed, and what is left of them. Its check has a list of them of its
 //! own, and takes as many. The last token that is taken of a text is the one at which the check refuses it.
-use super::answers::{OTHERWISE, Parser};
-use crate::rows::Shown;
+use super::answers::{OTHERWISE, checked_to, write_from};
 use graphql_parser::Error;
 use graphql_parser::lexer::Tokens;
+use rows::{Parser, Shown};
 use std::alloc::Global;
 
 /// Writes what a parser returns over fresh tokens of a text, and how many it takes.
@@ -17,7 +17,7 @@ pub fn write_counted(shown: &mut Shown, parser: Parser, view: &str, text: &str) 
 
 // Whether the check reports the token of this number, the first being 1, where it refuses a text at one; and else none.
 fn is_refused_at(alloc: Global, parser: Parser, text: &str, number: usize) -> bool {
-    let (answer, token) = parser.checked_to(alloc, text);
+    let (answer, token) = checked_to(alloc, parser, text);
     if !matches!(
         &answer,
         Err(Error::Syntax { .. } | Error::RecursionLimitExceeded)
@@ -37,7 +37,7 @@ fn write_taken(
     tokens: &mut Tokens<'_>,
     others: &mut Tokens<'_>,
 ) {
-    parser.write_from(shown, view, tokens, others);
+    write_from(shown, parser, view, tokens, others);
     shown.item(", taken ", &tokens.taken());
 }
 

@@ -1,5 +1,4 @@
 //! What the calls of a tree return, as text.
-use crate::rows::Shown;
 use crate::trees::{Written, write_default_value, write_directives, write_value};
 use graphql_parser::types::{
     ConstDirective, Directive, ExecutableDocument, Field, OperationDefinition, OperationsIter,
@@ -7,6 +6,7 @@ use graphql_parser::types::{
 };
 use graphql_parser::value::{ConstValue, Name, Value, ValueView};
 use graphql_parser::{Positioned, parse_query};
+use rows::Shown;
 use std::alloc::{AllocError, Global};
 
 /// What is looked at in the tree of a request, beside the whole tree and whether there is one.

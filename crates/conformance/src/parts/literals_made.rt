@@ -2,10 +2,10 @@
 ghost use Rattle.std.specs.Prelude.{◌≡◌, ◌∷◌, [], IsTrue, IfOk};
 ghost use Rattle.graphql_syntax.specs.trees.ValueTree.{null, boolean, list, object, trees_of, fields_of};
 
-use crate::rows::{Shown, pair};
 use crate::trees::Written;
 use crate::trees::plain::Plain;
 use graphql_syntax::value::{ConstValue, Literal, Name, Value};
+use rows::{Shown, pair};
 use std::alloc::{AllocError, Global};
 
 // `{name: [boolean, null]}`, at any type of values.

@@ -1,5 +1,4 @@
 //! The readers of values and arguments, at the third type.
-use crate::rows::{Shown, pair};
 use crate::trees::Written;
 use crate::trees::plain::Plain;
 use graphql_grammar::arguments::read_arguments;
@@ -8,6 +7,7 @@ use graphql_memory::Memory;
 use graphql_reading::limits::Limits;
 use graphql_reading::parser::{Parser, Reading, Refusal};
 use graphql_tokens::lexer::Tokens;
+use rows::{Shown, pair};
 
 /// Writes what stands first in a text, arguments or else a value, where values may nest so deep as the call says, as `read 64`; and
 /// the place of the next token after it, or of the rejected one.

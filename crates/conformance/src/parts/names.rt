@@ -1,7 +1,7 @@
 //! Names: their texts, copies, hashes and order.
 use crate::compared::hash_of;
-use crate::rows::{Shown, pair};
 use graphql_tokens::name::Name;
+use rows::{Shown, pair};
 use std::cmp::Ordering;
 
 /// Writes what the name of a text has as text, and prints plain, after blanks and for a developer; whether it takes no memory;

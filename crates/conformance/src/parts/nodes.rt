@@ -2,8 +2,8 @@
 ghost use Rattle.std.specs.Prelude.{◌≡◌, ◌<◌, ◌⊎◌, ◌↔◌, IsTrue};
 
 use crate::compared::hash_of;
-use crate::rows::{Shown, pair};
 use graphql_tokens::pos::{Pos, Positioned};
+use rows::{Shown, pair};
 use std::cmp::Ordering;
 
 // The default place is 0:0.

@@ -1,7 +1,7 @@
 //! Numbers: their literals, and their whole values.
 use crate::compared::{write_compared, write_copy};
-use crate::rows::{Shown, pair};
 use graphql_tokens::number::Number;
+use rows::{Shown, pair};
 
 /// Writes the number that a text is, or `none`.
 pub fn write_number(shown: &mut Shown, text: &str) {

@@ -1,7 +1,6 @@
 //! Places: what a calculator returns for offsets that never fall.
-use super::edits::number_in;
-use crate::rows::{Shown, pair};
 use graphql_tokens::pos::PositionCalculator;
+use rows::{Shown, number_in, pair};
 
 /// Writes the places of the offsets that stand before a text, with ` in ` between them, and after each how many characters were gone
 /// over for it; and without offsets how many are gone over.

@@ -1,6 +1,6 @@
 //! Token lists: of each token its kind, its spelling, its byte offset and its place.
-use crate::rows::Shown;
 use graphql_tokens::lexer::{Token, TokenKind, Tokens};
+use rows::Shown;
 
 /// Writes the tokens that a text is cut into, as `Name a 0 1:1, End 1 1:2`. What the list counts and reports on the way is looked at
 /// too.

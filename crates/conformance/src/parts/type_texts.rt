@@ -1,7 +1,7 @@
 //! Types that are read from a text, and shown again.
 use crate::compared::{write_compared, write_copy};
-use crate::rows::{Shown, pair};
 use graphql_syntax::types::{BaseType, Type};
+use rows::{Shown, pair};
 
 /// Writes what `Type::new` returns: a name between `'`, a list in brackets, and after each whether null may stand; or `none`. That
 /// the type prints as its text, and that a copy is equal, is looked at too.

@@ -1,8 +1,8 @@
 //! What serde reads and writes.
-use crate::rows::Shown;
 use graphql_syntax::types::{BaseType, OperationType, Type};
 use graphql_syntax::value::Name;
 use graphql_tokens::pos::Pos;
+use rows::Shown;
 use serde::{Deserialize, Serialize};
 use std::fmt::Debug;
 

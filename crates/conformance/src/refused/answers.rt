@@ -1,17 +1,10 @@
 //! How answers show. Showing takes no memory, and each function says whether there was an answer to show: else memory was refused.
-use crate::rows::Shown;
 use crate::trees::Written;
-use graphql_parser::{Error, Result as Answer};
+use graphql_parser::Result as Answer;
+use rows::{Shown, show, show_error};
 use serde::Serialize;
 use std::alloc::AllocError;
 use std::fmt;
-
-pub fn show_text(shown: &mut Shown, answer: Answer<String>) -> bool {
-    match answer {
-        Ok(text) => show(shown, &text),
-        Err(error) => show_error(shown, &error),
-    }
-}
 
 pub fn show_tree<D: Written + Drop>(shown: &mut Shown, answer: Answer<D>) -> bool {
     match answer {
@@ -27,33 +20,9 @@ pub fn show_checked(shown: &mut Shown, answer: Answer<()>) -> bool {
     }
 }
 
-// An error with its places.
-fn show_error(shown: &mut Shown, error: &Error) -> bool {
-    if matches!(error, Error::OutOfMemory) {
-        return false;
-    }
-    shown.item("", error);
-    for place in error.positions() {
-        shown.item(" ", &place);
-    }
-    true
-}
-
-pub fn show<T: fmt::Display>(shown: &mut Shown, item: &T) -> bool {
-    shown.item("", item);
-    true
-}
-
 pub fn write<T: Written>(shown: &mut Shown, node: &T) -> bool {
     node.write(shown);
     true
-}
-
-pub fn show_made<T: fmt::Display + Drop>(shown: &mut Shown, made: Result<T, AllocError>) -> bool {
-    match made {
-        Ok(item) => show(shown, &item),
-        Err(_) => false,
-    }
 }
 
 pub fn show_found<T: fmt::Display + Drop>(

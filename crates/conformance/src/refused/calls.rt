@@ -1,33 +1,23 @@
 //! Calls that are given a text.
-use super::answers::{
-    show, show_checked, show_found, show_json, show_made, show_option, show_text, show_tree,
-};
+use super::answers::{show_checked, show_found, show_json, show_option, show_tree};
 use super::free;
-use super::inputs::Input;
-use super::row::Row;
-use crate::rows::{Shown, pair};
 use graphql_parser::lexer::Tokens;
 use graphql_parser::text::{block_string_value, string_value};
 use graphql_parser::types::Type;
 use graphql_parser::value::{Name, Number};
 use graphql_parser::{
-    Limits, check_query, check_query_from, check_query_limited, check_schema, check_schema_from,
+    check_query, check_query_from, check_query_limited, check_schema, check_schema_from,
     check_schema_limited, parse_query, parse_query_from, parse_query_limited, parse_schema,
     parse_schema_from, parse_schema_limited,
 };
-use graphql_printer::{format_query, format_schema, minify_query, minify_schema};
+use rows::{Row, Shown, narrow, pair, show, show_made};
 
-/// Nothing but the text of the row.
-#[derive(Drop)]
-pub struct Text;
-
-impl Input for Text {
-    fn make(&mut self, row: &Row<'_>, shown: &mut Shown) -> bool {
-        match row.kind {
-            "query text" => of_query(shown, row.call, row.text),
-            "schema text" => of_schema(shown, row.call, row.text),
-            _ => of_text(shown, row.call, row.text),
-        }
+/// Makes a call that is given nothing but the text of its row.
+pub fn make_of_text(shown: &mut Shown, row: &Row<'_>) -> bool {
+    match row.kind {
+        "query text" => of_query(shown, row.call, row.text),
+        "schema text" => of_schema(shown, row.call, row.text),
+        _ => of_text(shown, row.call, row.text),
     }
 }
 
@@ -39,8 +29,6 @@ fn of_query(shown: &mut Shown, call: &str, text: &str) -> bool {
         "parse limited" => show_tree(shown, parse_query_limited(alloc, text, narrow())),
         "check" => show_checked(shown, check_query(alloc, text)),
         "check limited" => show_checked(shown, check_query_limited(alloc, text, narrow())),
-        "minify" => show_text(shown, minify_query(alloc, text, narrow())),
-        "format" => show_text(shown, format_query(alloc, text, narrow())),
         _ => of_tokens(shown, call, true, text),
     }
 }
@@ -53,8 +41,6 @@ fn of_schema(shown: &mut Shown, call: &str, text: &str) -> bool {
         "parse limited" => show_tree(shown, parse_schema_limited(alloc, text, narrow())),
         "check" => show_checked(shown, check_schema(alloc, text)),
         "check limited" => show_checked(shown, check_schema_limited(alloc, text, narrow())),
-        "minify" => show_text(shown, minify_schema(alloc, text, narrow())),
-        "format" => show_text(shown, format_schema(alloc, text, narrow())),
         _ => of_tokens(shown, call, false, text),
     }
 }
@@ -120,11 +106,6 @@ fn count(tokens: Tokens<'_>) -> usize {
         count = count.wrapping_add(1);
     }
     count
-}
-
-// Limits within which little may nest.
-fn narrow() -> Limits {
-    Limits::new(1, 1, 1).unwrap_or(Limits::default())
 }
 
 // A call that is given any other text.

@@ -1,13 +1,13 @@
 //! Calls that take no memory, and how their answers show.
-use super::inputs::first_field;
+use super::given::first_field;
 use crate::compared::hash_of;
-use crate::rows::Shown;
 use crate::trees::{Written, write_default_value, write_directives};
 use graphql_parser::lexer::Tokens;
 use graphql_parser::pos::PositionCalculator;
 use graphql_parser::types::{DocumentOperations, ExecutableDocument, SelectionSet};
 use graphql_parser::value::{ConstValue, Literal, Value};
 use graphql_parser::{Error, Limits, Pos, Positioned};
+use rows::Shown;
 use std::alloc::AllocError;
 
 /// The places of a text's tokens, how many were taken, and whether they have ended.

@@ -1,9 +1,9 @@
 //! Names, places, arguments and directives, as text. Each begins with a blank.
-use crate::rows::Shown;
 use crate::trees::values::Written;
 use graphql_syntax::pos::{Pos, Positioned};
 use graphql_syntax::types::{ConstDirective, Directive};
 use graphql_syntax::value::{ConstValue, Name};
+use rows::Shown;
 use std::fmt;
 
 // The place of a node, after what stands before it, and that of the node in it where it is another.

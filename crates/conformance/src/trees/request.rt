@@ -1,5 +1,4 @@
 //! The tree of a request, as text.
-use crate::rows::Shown;
 use crate::trees::parts::{
     write_arguments, write_default, write_directives, write_node, write_places,
 };
@@ -10,6 +9,7 @@ use graphql_trees::{
     DocumentOperations, ExecutableDocument, Field, InlineFragment, OperationDefinition, Selection,
     SelectionSet, TypeCondition, VariableDefinition,
 };
+use rows::Shown;
 use std::borrow::Cow;
 
 /// The tree of a request: its operations, and then its fragments, each after its name.

@@ -1,5 +1,4 @@
 //! The tree of a schema file, as text.
-use crate::rows::Shown;
 use crate::trees::parts::{write_default, write_directives, write_node};
 use crate::trees::values::Written;
 use graphql_syntax::pos::Positioned;
@@ -8,6 +7,7 @@ use graphql_trees::{
     DirectiveDefinition, FieldDefinition, InputValueDefinition, SchemaDefinition, ServiceDocument,
     TypeDefinition, TypeKind, TypeSystemDefinition,
 };
+use rows::Shown;
 
 /// The tree of a schema file: its definitions in order, after the word `file`.
 impl Written for ServiceDocument {

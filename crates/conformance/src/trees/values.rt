@@ -1,7 +1,7 @@
 //! Values as text.
-use crate::rows::Shown;
 use crate::trees::plain::Plain;
 use graphql_syntax::value::{ConstValue, Value};
+use rows::Shown;
 
 /// What is written as a part of a tree.
 pub trait Written {

@@ -1,5 +1,0 @@
-use Rattle.std.proofs.Common.{length, drop}
-use Rattle.conformance.proofs.bench.jobs.add_tokens.Given as goal
-
-abbrev pub decreases-loop-tokens : goal.decreases-loop-tokens
-decreases-loop-tokens l = length (drop l.tokens.taken l.tokens.whole)
