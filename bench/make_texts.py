@@ -1,5 +1,5 @@
 #!/usr/bin/env python3
-"""Makes the texts of a workload out of a seed, for `conformance bench`: make_texts.py JOB SEED > FILE
+"""Makes the texts of a workload out of a seed, for `conformance_tools bench`: make_texts.py JOB SEED > FILE
 
 The file begins with a line that has the state of the random numbers after the texts were made. For each text a line follows with
 what is done with it, its language, how many bytes it has, and at which of its bytes letters begin that change in each round;

@@ -3,7 +3,7 @@
 
     tests/layout.py [COUNT [SEED]]
 
-Texts are the rows of the tables of `conformance` and of tests/tables, and COUNT random texts of each language (2,000 without it) of
+Texts are the rows of the tables of `crates` and of tests/tables, and COUNT random texts of each language (2,000 without it) of
 `tests/random_texts.py`. GraphQL.js prints those that it reads. The tokens of what it prints, one blank apart, have to be
 formatted to that again, byte for byte, and so has what it prints itself: the block strings among them are spelled as in the
 text, where the two have the same tokens, and lines end in CR LF where the first one in them does. No minified text may be
@@ -68,7 +68,7 @@ def plain(text):
 
 
 def meant(text):
-    """What a text of a row stands for (the notation is said at `crates/conformance/src/rows.rt`)."""
+    """What a text of a row stands for (the notation is said at `crates/rows/src/lib.rt`)."""
 
     def inside(match):
         count, cross, part = match[1].partition("×")
@@ -86,7 +86,7 @@ def meant(text):
 def texts_of_rows():
     """The texts of all rows, under the languages that their tables' calls name, or both."""
     found = {"query": [], "schema": []}
-    for file in sorted([*(ROOT / "crates/conformance/data/tables").iterdir(), *(ROOT / "tests/tables").glob("*.rows")]):
+    for file in sorted([*ROOT.glob("crates/*/data/tables/*"), *(ROOT / "tests/tables").glob("*.rows")]):
         for table in file.read_text(encoding="utf-8").removeprefix("== ").split("\n== "):
             call, _, rows = table.partition("\n")
             if "\n⇒\n" in rows:

@@ -1,5 +1,5 @@
 #!/bin/sh
-# Has each request for memory refused in turn, in the calls of crates/conformance/data/refused.
+# Has each request for memory refused in turn, in the calls of crates/*/data/refused.
 #
 #   tests/refuse_each.sh [FIRST [LAST]]
 #
@@ -7,15 +7,14 @@
 # of each row is refused, by `rt try --fail-alloc`: without any proof, compiled with checks. Each row must then answer as it says,
 # or report that memory was refused. A run takes two minutes, all of them hours; FIRST and LAST choose a part.
 set -eu
-crate=$(dirname -- "$(readlink -f -- "$0")")/../crates/conformance
-cases=$(mktemp -d)
-log=$cases.log
-trap 'rm -rf "$cases" "$log"' EXIT
-cd "$crate"
+cd "$(dirname -- "$(readlink -f -- "$0")")/../crates"
+made=$(mktemp -d)
+log=$made/log
+trap 'rm -rf "$made"' EXIT
 
-# Refuses the request of the given number in each row of $cases. Each must end well, and answer or be out of memory.
+# Refuses the request of the given number in each row of $cases by $program. Each must end well, and answer or be out of memory.
 refuse() {
-    rt try --fail-alloc "$1" --cases "$cases" -- once >"$log" 2>&1 || true
+    (cd "$program" && rt try --fail-alloc "$1" --cases "$cases" -- once) >"$log" 2>&1 || true
     rows=$(ls "$cases" | wc -l)
     answered=$(grep -c '^answered$' "$log" || true)
     refused=$(grep -c '^out of memory$' "$log" || true)
@@ -27,30 +26,35 @@ refuse() {
 }
 
 # What stands on standard input for a row is the name of its table, and the row.
-awk -v cases="$cases" '
-    function finish() {
-        if (row != "") {
-            file = cases "/" count++
-            print call "\n" row >file
-            close(file)
+for tables in */data/refused; do
+    program=${tables%%/*}
+    cases=$made/$program
+    mkdir "$cases"
+    awk -v cases="$cases" '
+        function finish() {
+            if (row != "") {
+                file = cases "/" count++
+                print call "\n" row >file
+                close(file)
+            }
+            row = ""
         }
-        row = ""
-    }
-    /^-- / { next }
-    /^  / { sub(/^ */, " "); row = row $0; next }
-    { finish() }
-    /^== / { call = substr($0, 4); next }
-    { row = $0 }
-    END { finish() }' data/refused/*.rows
-refuse 1000000
-echo "none refused: $answered rows answered, $refused out of memory"
-[ "$refused" -eq 0 ]
-nth=${1:-1}
-without=0
-while [ "$nth" -le "${2:-1000000}" ] && [ "$without" -lt 3 ]; do
-    refuse "$nth"
-    echo "request $nth refused: of $rows rows $answered answered, $refused out of memory"
-    without=$((without + 1))
-    [ "$refused" -eq 0 ] || without=0
-    nth=$((nth + 1))
+        /^-- / { next }
+        /^  / { sub(/^ */, " "); row = row $0; next }
+        { finish() }
+        /^== / { call = substr($0, 4); next }
+        { row = $0 }
+        END { finish() }' "$tables"/*.rows
+    refuse 1000000
+    echo "$program: none refused: $answered rows answered, $refused out of memory"
+    [ "$refused" -eq 0 ]
+    nth=${1:-1}
+    without=0
+    while [ "$nth" -le "${2:-1000000}" ] && [ "$without" -lt 3 ]; do
+        refuse "$nth"
+        echo "request $nth refused: of $rows rows $answered answered, $refused out of memory"
+        without=$((without + 1))
+        [ "$refused" -eq 0 ] || without=0
+        nth=$((nth + 1))
+    done
 done

@@ -2,16 +2,16 @@
 # Texts of one shape that grow, and how long the parsers take over them.
 #
 #   tests/shapes.sh SHAPE COUNT    prints the text of a shape with so many parts
-#   tests/shapes.sh                has `conformance bench` read each shape with 100,000 and with 200,000 parts, and
+#   tests/shapes.sh                has `conformance_tools bench` read each shape with 100,000 and with 200,000 parts, and
 #                                  prints a line for each: the shape, both times in milliseconds, and the second over the first
 #
 #   tests/shapes.sh memory         has it read each shape with 100,000 parts, and prints a line for each: the shape, how
 #                                  many bytes a parse takes of a budget for each byte of the text, and how many a check
 #                                  takes in all
 #
-# The program has to be built: `rt run` in crates/conformance does that.
+# The program has to be built: `rt run` in crates/conformance_tools does that.
 set -eu
-conformance=$(dirname -- "$(readlink -f -- "$0")")/../crates/conformance/out/conformance
+program=$(dirname -- "$(readlink -f -- "$0")")/../crates/conformance_tools/out/conformance_tools
 
 # The allocator keeps its memory from one round to the next. Else, where a list grows beyond 32 MB, each round takes it
 # from the kernel anew, and more than half of the time goes there.
@@ -74,14 +74,14 @@ text() {
 # The nanoseconds of the fastest round over the text of a line with so many parts.
 fastest() {
     reader=${1#*;}
-    text "$1" "$2" | "$conformance" bench "${reader%%;*}" | awk '
+    text "$1" "$2" | "$program" bench "${reader%%;*}" | awk '
         $1 == "parse" && $3 == "accepted" && (!least || $2 < least) { least = $2 }
         END { if (!least) exit 1; print least }'
 }
 
 # The bytes that a call takes for the text in a file.
 taken() {
-    "$conformance" bench "$1" memory <"$2" | awk '{ print $2 }'
+    "$program" bench "$1" memory <"$2" | awk '{ print $2 }'
 }
 
 if [ "$*" = memory ]; then

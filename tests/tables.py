@@ -5,7 +5,7 @@ tests/tables.py quick [TABLE..] judges them without a proof or a built program, 
 
 GQL and GQLPARSE are the programs, as crates/gql/out/gql and crates/gqlparse/out/gqlparse. Without a TABLE all are judged. Each row that
 doesn't hold is printed with its file and line, what was expected and what was found; and each table that hasn't as many rows as
-`tests/tables/counts` says. The status is 0 where all rows hold. The notation of the rows is said at crates/conformance/src/rows.rt;
+`tests/tables/counts` says. The status is 0 where all rows hold. The notation of the rows is said at crates/rows/src/lib.rt;
 what each call shows, at its function here."""
 import sys, tempfile
 from concurrent.futures import ProcessPoolExecutor

@@ -311,7 +311,7 @@ def run_of_gqlparse(programs, _, row):
 # ---- Made texts
 
 class Random:
-    """Numbers that look random, made by a seed: those of crates/conformance/src/random.rt."""
+    """Numbers that look random, made by a seed: those of crates/conformance_tools/src/random.rt."""
 
     def __init__(self, state):
         self.state = state

@@ -1,5 +1,5 @@
 #!/usr/bin/env python3
-"""Writes the texts of the tables of tests/ and crates/conformance, of the benchmarks, and random ones: account_texts.py FILE
+"""Writes the texts of the tables of tests/ and crates/, of the benchmarks, and random ones: account_texts.py FILE
 
 Before each stands its length in four bytes, the lowest first. account.c reads them. Longer texts of tables than 100,000 bytes
 are left out."""
@@ -18,12 +18,11 @@ LONGEST = 100_000
 
 
 def texts():
-    for folder in (ROOT / "crates/conformance/data/tables", ROOT / "tests/tables"):
-        for file in sorted(folder.glob("*.rows")):
-            for call, rows in rows_of(file):
-                if call.split(" ")[0] in CALLS:
-                    read = (row.text.encode(errors="surrogatepass") for row in rows)
-                    yield from (text for text in read if len(text) <= LONGEST)
+    for file in [*sorted(ROOT.glob("crates/*/data/tables/*.rows")), *sorted(ROOT.glob("tests/tables/*.rows"))]:
+        for call, rows in rows_of(file):
+            if call.split(" ")[0] in CALLS:
+                read = (row.text.encode(errors="surrogatepass") for row in rows)
+                yield from (text for text in read if len(text) <= LONGEST)
     yield (ROOT / "bench/merged.graphqls").read_bytes()
     for language in ("query", "schema"):
         source = Source(language, SEED)

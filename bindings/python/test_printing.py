@@ -21,9 +21,9 @@ SIGNS = str.maketrans("␊␍␉␠", "\n\r\t ")
 
 
 def texts_of_rows():
-    """The texts of the library's tables (notation: `crates/conformance/src/rows.rt`), but for those with marks that repeat."""
+    """The texts of the library's tables (notation: `crates/rows/src/lib.rt`), but for those with marks that repeat."""
     root = Path(__file__).resolve().parents[2]
-    files = [*(root / "crates/conformance/data/tables").iterdir(), *(root / "tests/tables").glob("*.rows")]
+    files = [*root.glob("crates/*/data/tables/*"), *root.glob("tests/tables/*.rows")]
     lines = [line for file in sorted(files) for line in file.read_text().splitlines() if " ⇒" in line]
     texts = {line.partition(" ⇒")[0] for line in lines if not line.startswith("-- ") and "⟨" not in line}
     return sorted(text.translate(SIGNS) for text in texts)

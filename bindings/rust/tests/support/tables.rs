@@ -1,7 +1,7 @@
 //! The texts of the library's own tests.
 //!
 //! Their files have tables, with a text before the arrow of each row, and whole texts. How they are written, and what the
-//! marks of a row stand for, is said at `crates/conformance/src/rows.rt`.
+//! marks of a row stand for, is said at `crates/rows/src/lib.rt`.
 use std::fs;
 use std::path::{Path, PathBuf};
 
@@ -20,6 +20,7 @@ pub fn texts() -> Vec<String> {
         .filter(|file| file.extension().is_some_and(|end| end == "rows"));
     for file in files(&path("crates/conformance/data/tables"))
         .into_iter()
+        .chain(files(&path("crates/conformance_tools/data/tables")))
         .chain(of_programs)
     {
         for table in fs::read_to_string(file).unwrap().split("\n== ") {
@@ -47,7 +48,7 @@ fn files(folder: &Path) -> Vec<PathBuf> {
 
 /// The rows of a table whose answers stand between quotes: each text, and its answer.
 pub fn answers(file: &str, call: &str) -> Vec<(String, String)> {
-    let path = path("crates/conformance/data/tables").join(file);
+    let path = path("crates/conformance_tools/data/tables").join(file);
     let source = fs::read_to_string(path).unwrap();
     let (_, rest) = source.split_once(&format!("== {call}\n")).unwrap();
     let (table, _) = rest.split_once("\n== ").unwrap_or((rest, ""));
