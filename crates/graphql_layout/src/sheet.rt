@@ -115,8 +115,18 @@ fn push_long_line(text: &mut String, line_end: LineEnd) -> Result<(), AllocError
 {
     match line_end {
         LineEnd::Feed => text.push_str("\n                               "),
-        LineEnd::ReturnAndFeed => text.push_str("\r\n                               "),
+        LineEnd::ReturnAndFeed => push_return_line(text),
     }
+}
+
+// The same where lines end in a carriage return and a line feed. Never inlined: few texts have such lines.
+#[inline(never)]
+fn push_return_line(text: &mut String) -> Result<(), AllocError>
+    ensures ok { OnOk result (string_bytes text.new ≡ string_bytes text.old
+        ++ (line_end_of LineEnd.ReturnAndFeed ++ blanks 31)) }
+    ensures err { OnErr result (string_bytes text.new ≡ string_bytes text.old) }
+{
+    text.push_str("\r\n                               ")
 }
 
 // Ends a line, and writes so many levels of two blanks.
