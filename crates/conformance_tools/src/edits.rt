@@ -89,7 +89,7 @@ fn write_others<T: Copy + PartialEq + Debug>(
     }
 }
 
-// Writes the text with something else in a range, and what a document of it becomes, if that is another text.
+// Writes the text with something else in a range, and what a document of it becomes, if that is another text or has other positions.
 fn write_applied(shown: &mut Shown, asked: &str, encoding: Encoding, text: &str) {
     let (start, asked) = pair(asked, " ");
     let (end, new) = pair(asked, " ");
@@ -112,6 +112,10 @@ fn write_applied(shown: &mut Shown, asked: &str, encoding: Encoding, text: &str)
         shown.item("', of a document '", &document.text());
     }
     shown.word("'");
+    for offset in 0..=found.len() {
+        let place = position_of(&found, encoding, offset);
+        write_others(shown, place, place, document.position_of(encoding, offset));
+    }
 }
 
 fn write_replaced(shown: &mut Shown, asked: &str, text: &str) {

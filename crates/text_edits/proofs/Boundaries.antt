@@ -1,12 +1,12 @@
 -- A text that is cut after some of its characters.
-use Rattle.std.proofs.Common.{◌≡◌, ℕ, ◌+◌, ◌-◌, ◌≤◌, ◌<◌, ◌⊎◌, Bool, true, false, ◌&&◌, List, [], ◌∷◌, ◌++◌, length, take, drop, refl, sym, ap, ◌∙◌, subst, arith, inl, inr, append_assoc, length-take}
+use Rattle.std.proofs.Common.{◌≡◌, ℕ, ◌+◌, ◌-◌, ◌≤◌, ◌<◌, ◌⊎◌, Bool, true, false, ◌&&◌, List, [], ◌∷◌, ◌++◌, length, take, drop, max, refl, sym, ap, ap₂, ◌∙◌, subst, arith, inl, inr, append_assoc, length-take}
 use Rattle.std.proofs.Math.Seq.{take-append_seam, drop-append_seam}
 use Rattle.std.proofs.lemmas.Bool.{cases_lt}
 use Rattle.std.proofs.lemmas.Str.{chars-append, encodes-append, encodes-chars, chars-encodes, scalars-chars, IsUtf8-take, IsUtf8-drop, IsCharBoundary-at_seam, IsCharBoundary-from_rest}
 use Rattle.std.specs.Str.{chars, IsUtf8, IsCharBoundary, encode_utf8_all, all_scalars}
 use Rattle.text_edits.specs.declared.Encoding.{Encoding}
 use Rattle.text_edits.specs.declared.Encoding.TheVariants.{Utf8}
-use Rattle.text_edits.specs.Edits.{before, from}
+use Rattle.text_edits.specs.Edits.{before, from, replaced}
 use Rattle.text_edits.specs.Lines.{is_line_end, content}
 use Rattle.text_edits.specs.Units.{units, width, fitting}
 use Rattle.text_edits.proofs.Cuts.{chars_split}
@@ -122,3 +122,20 @@ after_floor bs offset floor u e =
 pub chars_three : (xs ys zs : List ℕ) → IsUtf8 xs → IsUtf8 ys → chars ((xs ++ ys) ++ zs) ≡ chars xs ++ (chars ys ++ chars zs)
 chars_three xs ys zs u v =
     ap chars (append_assoc xs ys zs) ∙ chars-append xs (ys ++ zs) u ∙ ap (λ (l : List ℕ). chars xs ++ l) (chars-append ys zs v)
+
+-- a text with a part replaced between two places where it may be cut
+pub chars_replaced : (text new : List ℕ) (start end : ℕ) → IsUtf8 text → IsUtf8 new → IsCharBoundary text start → IsCharBoundary text end → start ≤ end
+    → chars ((take start text ++ new) ++ drop end text) ≡ replaced (chars text) start end (chars new)
+chars_replaced text new start end u v b d order =
+    let a = floor_is text start start u (omega arith) b (λ i l h. absurd (omega arith)) in
+    let z = floor_is text end end u (omega arith) d (λ i l h. absurd (omega arith)) in
+    let last : end ≡ max start end = omega arith in
+    chars_three (take start text) new (drop end text) (IsUtf8-take text start u b) v
+    ∙ ap₂ (λ (x y : List ℕ). x ++ (chars new ++ y)) (before_floor text start start u a) (after_floor text end end u z ∙ ap (λ n. from n (chars text)) last)
+
+pub boundary_max : (text : List ℕ) (start end : ℕ) → IsCharBoundary text start → IsCharBoundary text end → IsCharBoundary text (max start end)
+boundary_max text start end b d = by (cases_lt start end)
+  where
+    by : (start < end) ⊎ (end ≤ start) → IsCharBoundary text (max start end)
+    by (inl less) = let e : end ≡ max start end = omega arith in subst (IsCharBoundary text) e d
+    by (inr more) = let e : start ≡ max start end = omega arith in subst (IsCharBoundary text) e b

@@ -82,7 +82,7 @@ pub record Ends (bs : List ℕ) (i : ℕ) : Type 0 where
   pub before : (k : ℕ) → k < i → is_line_end (get_or bs k 0) ≡ false
   pub here : is_line_end (get_or bs i 0) ≡ true
 
-end_ascii : (c : ℕ) → is_line_end c ≡ true → c < 128
+pub end_ascii : (c : ℕ) → is_line_end c ≡ true → c < 128
 end_ascii c e = grind (arith, nat_tests)
 
 end_other : (c : ℕ) → is_line_end c ≡ true → (c ≡ 10 → ⊥) → c ≡ 13
@@ -146,10 +146,13 @@ found text bytes i same f =
     let here : IsFirstByte (is_byte2 10 13) text (Some i) = subst (λ (l : List ℕ). IsFirstByte (is_byte2 10 13) l (Some i)) same f in
     record { within = here.0.high; before = λ k l. goes_on (get_or text k 0) (here.0.before k (omega arith) l); here = here.1 }
 
-pub found_none : (text bytes : List ℕ) → IsUtf8 text → bytes ≡ text → IsFirstByte (is_byte2 10 13) bytes None → InLine (chars text)
-found_none text bytes u same f =
+pub no_ends : (text bytes : List ℕ) → bytes ≡ text → IsFirstByte (is_byte2 10 13) bytes None → (k : ℕ) → k < length text → is_line_end (get_or text k 0) ≡ false
+no_ends text bytes same f k l =
     let here : IsFirstByte (is_byte2 10 13) text None = subst (λ (l : List ℕ). IsFirstByte (is_byte2 10 13) l None) same f in
-    in_line_text text u (λ k l. goes_on (get_or text k 0) (here k (omega arith) l))
+    goes_on (get_or text k 0) (here k (omega arith) l)
+
+pub found_none : (text bytes : List ℕ) → IsUtf8 text → bytes ≡ text → IsFirstByte (is_byte2 10 13) bytes None → InLine (chars text)
+found_none text bytes u same f = in_line_text text u (no_ends text bytes same f)
 
 -- a byte past the end reads as 0, so a line feed is within
 pub byte_there : (bs : List ℕ) (k : ℕ) → get_or bs k 0 ≡ 10 → k < length bs

@@ -42,7 +42,7 @@ inner true y z e = e
 inner false true z e = absurd cc
 inner false false z e = refl
 
-goes_on : (c : ℕ) (cs : List ℕ) → is_line_end c ≡ false → ends_line c cs ≡ false
+pub goes_on : (c : ℕ) (cs : List ℕ) → is_line_end c ≡ false → ends_line c cs ≡ false
 goes_on c cs e = inner (eqb c 10) (eqb c 13) (not (begins_with_line_feed cs)) e
 
 pub lines_all : (cs : List ℕ) → InLine cs → lines cs ≡ cs ∷ []

@@ -1,19 +1,20 @@
 -- Where lines begin, as an index has it.
-use Rattle.std.proofs.Common.{◌≡◌, ℕ, zero, suc, ◌+◌, ◌-◌, ◌≤◌, ◌<◌, ◌⊎◌, List, [], ◌∷◌, ◌++◌, length, drop, get_or, refl, sym, ap, ◌∙◌, subst, arith, inl, inr, append_assoc}
-use Rattle.std.proofs.lemmas.List.{append-nil, drop-drop, get_or_default}
-use Rattle.std.proofs.lemmas.Str.{IsUtf8-drop, IsCharBoundary-start, IsCharBoundary-from_rest}
-use Rattle.std.specs.Str.{chars, IsUtf8, IsCharBoundary}
+use Rattle.std.proofs.Common.{◌≡◌, ℕ, zero, suc, ◌+◌, ◌-◌, ◌≤◌, ◌<◌, ◌⊎◌, List, [], ◌∷◌, ◌++◌, length, get_or, refl, sym, ap, ◌∙◌, subst, arith, inl, inr, append_assoc}
+use Rattle.std.proofs.lemmas.List.{append-nil, get_or_default}
+use Rattle.std.proofs.lemmas.List.Sorted.{IsNonDecreasingBy-from_default}
+use Rattle.std.specs.List.Sorted.{IsNonDecreasing}
+use Rattle.std.specs.Str.{chars, IsUtf8}
 use Rattle.text_edits.specs.declared.Encoding.TheVariants.{Utf8}
 use Rattle.text_edits.specs.Indexes.{line_starts, starts_of}
 use Rattle.text_edits.specs.Lines.{lines, content}
 use Rattle.text_edits.specs.Positions.{start_of, line_at, lines_passed}
-use Rattle.text_edits.specs.Starts.{IsLastLine, IsNextLine, IsLineStart}
+use Rattle.text_edits.specs.Starts.{IsBegun, IsLineStart}
 use Rattle.text_edits.specs.Units.{width}
 use Rattle.text_edits.proofs.Boundaries.{cut_at}
 use Rattle.text_edits.proofs.FirstLines.{InLine, More, first_line, lines_all, lines_some}
 use Rattle.text_edits.proofs.Passed.{passed_stop, passed_step}
-use Rattle.text_edits.proofs.Rounds.{Lined, lined, more_lines}
-use Rattle.text_edits.proofs.Starts.{next_width, start_nil}
+use Rattle.text_edits.proofs.Rounds.{more_lines}
+use Rattle.text_edits.proofs.Starts.{start_nil}
 use Rattle.text_edits.proofs.Widths.{width-append, width-chars}
 
 -- ---- the list of starts
@@ -33,55 +34,11 @@ start_rises ls (suc i) zero l = absurd (omega arith)
 start_rises [] (suc i) (suc j) l = omega arith
 start_rises (l ∷ ls) (suc i) (suc j) h = omega (arith, start_rises ls i j (omega arith))
 
-start_later : (ls : List (List ℕ)) → Lined ls → (n : ℕ) → suc n < length ls → start_of ls n < start_of ls (suc n)
-start_later [] each n l = absurd (omega arith)
-start_later (l ∷ []) each n h = absurd (omega arith)
-start_later (l ∷ m ∷ ls) each zero h = omega (arith, each.0)
-start_later (l ∷ m ∷ ls) each (suc n) h = omega (arith, start_later (m ∷ ls) each.1 n (omega arith))
-
 pub starts_rise : (text : List ℕ) (i j : ℕ) → i ≤ j → j < length (starts_of text) → get_or (starts_of text) i 0 ≤ get_or (starts_of text) j 0
 starts_rise text i j l h =
     let ls : List (List ℕ) = lines (chars text) in
     let long = length-line_starts 0 ls in
     omega (arith, get_or-line_starts 0 i ls (omega arith), get_or-line_starts 0 j ls (omega arith), start_rises ls i j l)
-
--- ---- as it is made
-
--- the starts of the lines after the first one
-abbrev pub later_starts : ℕ → List (List ℕ) → List ℕ
-later_starts start [] = []
-later_starts start (line ∷ lines) = line_starts (start + width Utf8 line) lines
-
-pub record Made (text starts : List ℕ) (start : ℕ) : Type 0 where
-  pub boundary : IsCharBoundary text start
-  pub same : starts_of text ≡ starts ++ later_starts start (lines (chars (drop start text)))
-
-first_start : (start : ℕ) (cs : List ℕ) → line_starts start (lines cs) ≡ start ∷ later_starts start (lines cs)
-first_start start cs = let some = lines_some cs in rw some.is refl
-
-pub made_start : (text starts : List ℕ) → IsUtf8 text → starts ≡ 0 ∷ [] → Made text starts 0
-made_start text starts u e = record {
-  boundary = IsCharBoundary-start text u;
-  same = first_start 0 (chars text) ∙ ap (λ (l : List ℕ). l ++ later_starts 0 (lines (chars text))) (sym e);
-}
-
-pub made_next : (text starts more : List ℕ) (start n : ℕ) → IsUtf8 text → Made text starts start → IsNextLine (drop start text) n → more ≡ starts ++ (start + n) ∷ [] → Made text more (start + n)
-made_next text starts more start n u made next e =
-    let rest : List ℕ = drop start text in
-    let wide = next_width rest n (IsUtf8-drop text start u made.boundary) next in
-    let after : later_starts start (lines (chars rest)) ≡ (start + n) ∷ later_starts (start + n) (lines (chars (drop (start + n) text))) =
-    ap (later_starts start) next.lines ∙ ap (λ k. line_starts (start + k) (lines (chars (drop n rest)))) wide
-    ∙ first_start (start + n) (chars (drop n rest)) ∙ ap (λ (l : List ℕ). (start + n) ∷ later_starts (start + n) (lines (chars l))) (drop-drop n start text) in
-    record {
-      boundary = IsCharBoundary-from_rest text start n made.boundary.0 next.boundary;
-      same = made.same ∙ ap (λ (l : List ℕ). starts ++ l) after
-          ∙ sym (append_assoc starts ((start + n) ∷ []) (later_starts (start + n) (lines (chars (drop (start + n) text)))))
-          ∙ ap (λ (l : List ℕ). l ++ later_starts (start + n) (lines (chars (drop (start + n) text)))) (sym e);
-    }
-
-pub made_last : (text starts : List ℕ) (start : ℕ) → Made text starts start → IsLastLine (drop start text) → starts ≡ starts_of text
-made_last text starts start made last =
-    sym (made.same ∙ ap (λ (l : List (List ℕ)). starts ++ later_starts start l) last ∙ append-nil starts)
 
 -- ---- as a line is looked up
 
@@ -167,16 +124,8 @@ passed_is (l ∷ m ∷ ls) zero offset h low high =
 passed_is (l ∷ m ∷ ls) (suc n) offset h low high =
     passed_step l m ls offset (omega arith) ∙ ap suc (passed_is (m ∷ ls) n (offset - width Utf8 l) (omega arith) (omega arith) (λ k. let less = high (omega arith) in omega arith))
 
--- a line begins at the offset
-pub found_start : (text : List ℕ) (n offset : ℕ) → n < length (starts_of text) → get_or (starts_of text) n 0 ≡ offset → n ≡ lines_passed (lines (chars text)) offset
-found_start text n offset l e =
-    let ls : List (List ℕ) = lines (chars text) in
-    let long = length-line_starts 0 ls in
-    let here = get_or-line_starts 0 n ls (omega arith) in
-    sym (passed_is ls n offset (omega arith) (omega arith) (λ k. omega (arith, start_later ls (lined ls (chars text) refl) n k)))
-
 -- a line begins before the offset, and the next one after it
-pub found_between : (text : List ℕ) (next offset : ℕ) → 0 < next → next ≤ length (starts_of text) → ((k : ℕ) → k < next → get_or (starts_of text) k 0 < offset)
+pub found_between : (text : List ℕ) (next offset : ℕ) → 0 < next → next ≤ length (starts_of text) → ((k : ℕ) → k < next → get_or (starts_of text) k 0 ≤ offset)
     → ((k : ℕ) → next ≤ k → k < length (starts_of text) → offset < get_or (starts_of text) k 0) → next - 1 ≡ lines_passed (lines (chars text)) offset
 found_between text next offset some within low high =
     let ls : List (List ℕ) = lines (chars text) in
@@ -191,9 +140,14 @@ pub not_first : (text : List ℕ) (next offset : ℕ) → ((k : ℕ) → next �
 not_first text zero offset high =
     let some = lines_some (chars text) in
     let long : length (starts_of text) ≡ suc (length some.more) = length-line_starts 0 (lines (chars text)) ∙ ap length some.is in
-    let first : get_or (starts_of text) 0 0 ≡ 0 = ap (λ (l : List ℕ). get_or l 0 0) (first_start 0 (chars text)) in
+    let first : get_or (starts_of text) 0 0 ≡ 0 = ap (λ (l : List (List ℕ)). get_or (line_starts 0 l) 0 0) some.is in
     absurd (omega (arith, high 0 (omega arith) (omega arith)))
 not_first text (suc next) offset high = omega arith
+
+-- the starts are in order, as a search asks
+pub begun_text : (text starts : List ℕ) (offset n : ℕ) → (IsNonDecreasing starts → IsBegun starts offset n) → starts ≡ starts_of text → IsBegun (starts_of text) offset n
+begun_text text starts offset n sorted same =
+    subst (λ (l : List ℕ). IsBegun l offset n) same (sorted (subst IsNonDecreasing (sym same) (IsNonDecreasingBy-from_default (λ x. x) (starts_of text) 0 (starts_rise text))))
 
 -- ---- what the code reads of it
 

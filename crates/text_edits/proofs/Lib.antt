@@ -5,6 +5,8 @@ pub mod Cuts
 pub mod FirstLines
 pub mod Indexes
 pub mod Passed
+pub mod Patches
 pub mod Rounds
 pub mod Starts
 pub mod Widths
+pub mod Within

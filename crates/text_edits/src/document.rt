@@ -6,7 +6,7 @@ ghost use Rattle.text_edits.specs.Edits.{replaced};
 ghost use Rattle.text_edits.specs.Indexes.{starts_of};
 ghost use Rattle.text_edits.specs.Positions.{offset_of, position_of, IsPosition, IsInLineEnd};
 
-use crate::edits::replace;
+use crate::edits::later;
 use crate::{Encoding, LineIndex, Position, Range};
 use std::alloc::{AllocError, Global};
 use std::marker::Model;
@@ -64,7 +64,8 @@ impl Document {
         self.index.position_of(&self.text, encoding, offset)
     }
 
-    /// Puts `new` in the place of what is in the range, as [`apply`](crate::apply) does.
+    /// Puts `new` in the place of what is in the range, as [`apply`](crate::apply) does, but in place: only what comes after the range is
+    /// moved, and only `new` is gone over.
     ///
     /// It fails only where memory runs out, and then the document is as it was.
     pub fn apply(
@@ -79,11 +80,7 @@ impl Document {
         ensures err { OnErr result (self.new ≡ self.old) }
     {
         let start = self.offset_of(encoding, range.start);
-        let end = self.offset_of(encoding, range.end);
-        let text = replace(alloc, self.text.as_str(), start, end, new)?;
-        let index = LineIndex::new(alloc, &text)?;
-        self.text = text;
-        self.index = index;
-        Ok(())
+        let end = later(start, self.offset_of(encoding, range.end));
+        self.index.replace(alloc, &mut self.text, start, end, new)
     }
 }

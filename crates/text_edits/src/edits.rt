@@ -9,8 +9,8 @@ use crate::positions::offset_of;
 use crate::{Encoding, Range};
 use std::alloc::{AllocError, Global};
 
-// The greater one.
-fn later(start: usize, end: usize) -> usize
+/// The greater one.
+pub(crate) fn later(start: usize, end: usize) -> usize
     ensures { result ≡ max start end }
 {
     if start < end { end } else { start }

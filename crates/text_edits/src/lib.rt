@@ -19,6 +19,7 @@ mod document;
 mod edits;
 mod line_index;
 mod lines;
+mod parts;
 mod positions;
 
 pub use document::Document;

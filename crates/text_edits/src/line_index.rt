@@ -1,13 +1,15 @@
 //! Where the lines of a text begin, found once and then looked up.
 
-ghost use Rattle.std.specs.Prelude.{◌≡◌, ◌+◌, ◌≤◌, IfOk, List, ℕ};
+ghost use Rattle.std.specs.List.Sorted.{IsNonDecreasing};
+ghost use Rattle.std.specs.Prelude.{◌≡◌, ◌+◌, ◌≤◌, IfOk, List, OnErr, OnOk, length, nat_le, string_bytes, ℕ};
 ghost use Rattle.std.specs.Str.{chars, IsCharBoundary};
+ghost use Rattle.text_edits.specs.Edits.{replaced};
 ghost use Rattle.text_edits.specs.Indexes.{starts_of};
 ghost use Rattle.text_edits.specs.Lines.{lines};
 ghost use Rattle.text_edits.specs.Positions.{lines_passed, offset_of, position_of, IsPosition, IsInLineEnd};
-ghost use Rattle.text_edits.specs.Starts.{IsLineStart};
+ghost use Rattle.text_edits.specs.Starts.{IsBegun, IsLineStart};
 
-use crate::lines::next_line;
+use crate::parts::{push_starts, shift, starts_from};
 use crate::positions::{Line, offset_on, position_on};
 use crate::{Encoding, Position};
 use std::alloc::{AllocError, Global};
@@ -37,11 +39,7 @@ impl LineIndex {
     {
         let mut starts = Vec::new(alloc);
         starts.push(0)?;
-        let mut start = 0;
-        while let Some(length) = next_line(&text[start..]) {
-            start += length;
-            starts.push(start)?;
-        }
+        push_starts(&mut starts, 0, text.as_bytes(), &[])?;
         Ok(LineIndex { starts })
     }
 
@@ -56,6 +54,18 @@ impl LineIndex {
         }
     }
 
+    // How many lines begin at or before a byte offset.
+    fn begun(&self, offset: usize) -> usize
+        ensures bound { result ≤ length self.now }
+        ensures parted { IsNonDecreasing self.now → IsBegun self.now offset result }
+    {
+        self.starts.partition_point(
+            |start| -> bool
+                ensures { result ≡ nat_le start.now offset }
+            { *start <= offset },
+        )
+    }
+
     // The line of the text that a byte offset is on: the last one that begins at or before it.
     fn line_of(&self, text: &str, offset: usize) -> Line
         requires { self.now ≡ starts_of text.now }
@@ -63,19 +73,45 @@ impl LineIndex {
         ensures on { result.number ≡ lines_passed (lines (chars text.now)) offset }
         ensures low { result.start ≤ offset }
     {
-        match self.starts.binary_search(&offset) {
-            Ok(number) => Line {
-                number,
-                start: offset,
-            },
-            Err(next) => {
-                let number = next - 1;
-                Line {
-                    number,
-                    start: self.starts[number],
-                }
-            }
+        let number = self.begun(offset) - 1;
+        Line {
+            number,
+            start: self.starts[number],
         }
+    }
+
+    /// Puts `new` in the place of a part of the text of the index. What begins after it is moved, so it takes the time of moving bytes
+    /// and numbers, and of going over `new`.
+    ///
+    /// It fails only where memory runs out, and then both are as they were.
+    pub(crate) fn replace(
+        &mut self,
+        alloc: Global,
+        text: &mut String,
+        start: usize,
+        end: usize,
+        new: &str,
+    ) -> Result<(), AllocError>
+        requires same { self.old ≡ starts_of (string_bytes text.old) }
+        requires order { start ≤ end }
+        requires start { IsCharBoundary (string_bytes text.old) start }
+        requires end { IsCharBoundary (string_bytes text.old) end }
+        ensures text { OnOk result (chars (string_bytes text.new)
+            ≡ replaced (chars (string_bytes text.old)) start end (chars new.now)) }
+        ensures index { OnOk result (self.new ≡ starts_of (string_bytes text.new)) }
+        ensures err { OnErr result ((self.new ≡ self.old) × (string_bytes text.new ≡ string_bytes text.old)) }
+    {
+        let bytes = text.as_str().as_bytes();
+        let (front, back) = (&bytes[..start], &bytes[end..]);
+        let begun = starts_from(alloc, front, new.as_bytes(), back)?;
+        let kept = self.begun(start.saturating_sub(1));
+        let passed = self.begun(end);
+        let first = kept + begun.len();
+        text.reserve(new.len())?;
+        self.starts.splice(kept..passed, begun)?;
+        text.replace_range(start..end, new)?;
+        shift(self.starts.as_mut_slice(), first, end, start + new.len());
+        Ok(())
     }
 
     /// The byte offset of a position in the text of the index: what [`offset_of`](crate::offset_of) gives.

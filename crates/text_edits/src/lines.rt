@@ -7,8 +7,8 @@ ghost use Rattle.text_edits.specs.Starts.{IsLastLine, IsNextLine, IsLineStart};
 
 use memchr::memchr2;
 
-// Whether this byte is there, and is a line feed.
-fn is_line_feed(bytes: &[u8], at: usize) -> bool
+/// Whether this byte is there, and is a line feed.
+pub fn is_line_feed(bytes: &[u8], at: usize) -> bool
     ensures { result ≡ (slice_index bytes.now at == 10) }
 {
     at < bytes.len() && bytes[at] == b'\n'
