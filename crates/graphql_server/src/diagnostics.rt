@@ -9,7 +9,7 @@ ghost use Rattle.graphql_server.specs.Ranges.{IsRange, IsDiagnosticOf, Shows, Al
 
 use crate::messages::{Diagnostic, Location, Related};
 use graphql_parser::Limits;
-use graphql_texts::{Diagnosis, Language, Other, diagnoses_of};
+use graphql_texts::{Diagnosis, Language, Missing, Other, diagnoses_of};
 use std::alloc::{AllocError, Global};
 use text_edits::{Document, Encoding, Range};
 
@@ -39,8 +39,8 @@ pub fn found_in(
 }
 
 /// The diagnostics of a text that is read as this language, each with the range of what is refused, and, for a name that is defined
-/// twice, with the place of the other definition, or, for a bracket that isn't closed, with that of the bracket. They are made from
-/// this text alone, and there is none only if the text is good.
+/// twice, with the place of the other definition, or, for a bracket that isn't closed, with that of the bracket, if such places are
+/// wanted. They are made from this text alone, and there is none only if the text is good.
 ///
 /// It fails only if memory runs out.
 pub fn diagnostics_of<'a>(
@@ -49,12 +49,21 @@ pub fn diagnostics_of<'a>(
     language: Language,
     encoding: Encoding,
     document: &Document,
+    takes_related: bool,
 ) -> Result<Vec<Diagnostic<'a>>, AllocError>
     ensures good { IfOk result (λ told. told.items ≡ [] → IsGoodText true language default_limits document.now) }
     ensures ranges { IfOk result (λ told. All (IsDiagnosticOf encoding document.now) told.items) }
 {
     let found = found_in(alloc, language, document)?;
-    let diagnostics = shown(alloc, uri, language, encoding, document, found)?;
+    let diagnostics = shown(
+        alloc,
+        uri,
+        language,
+        encoding,
+        document,
+        found,
+        takes_related,
+    )?;
     Ok(diagnostics)
 }
 
@@ -68,30 +77,39 @@ pub fn shown<'a>(
     encoding: Encoding,
     document: &Document,
     found: Vec<Diagnosis>,
+    takes_related: bool,
 ) -> Result<Vec<Diagnostic<'a>>, AllocError>
     ensures shown { IfOk result (λ told. AllShown encoding document.now found.items told.items) }
     ensures ranges { IfOk result (λ told. All (IsDiagnosticOf encoding document.now) told.items) }
 {
     let mut diagnostics = Vec::new(alloc);
     for diagnosis in found {
-        let other = other_of(alloc, language, document.text(), &diagnosis)?;
+        let other = other_of(alloc, language, document.text(), &diagnosis, takes_related)?;
         diagnostics.push(diagnostic_of(uri, encoding, document, diagnosis, other))?;
     }
     Ok(diagnostics)
 }
 
-/// The other place of a diagnosis of this text: that of the other definition, or of the bracket that isn't closed.
-///
-/// It fails only if memory runs out.
-pub fn other_of(
+// The other place of a diagnosis of this text, if it is wanted.
+fn other_of(
     alloc: Global,
     language: Language,
     text: &str,
     diagnosis: &Diagnosis,
+    is_wanted: bool,
 ) -> Result<Option<Other>, AllocError> {
-    match diagnosis.other {
-        Some(other) => Ok(Some(other)),
-        None => diagnosis.opening(alloc, language, text, Limits::default()),
+    if !is_wanted {
+        return Ok(None);
+    }
+    let missing = diagnosis.missing(alloc, language, text, Limits::default())?;
+    Ok(other_place(text, diagnosis, missing.as_ref()))
+}
+
+/// The other place of a diagnosis of this text: that of the other definition, or of the bracket that isn't closed.
+pub fn other_place(text: &str, diagnosis: &Diagnosis, missing: Option<&Missing>) -> Option<Other> {
+    match (diagnosis.other, missing) {
+        (None, Some(missing)) => Some(missing.opening(text)),
+        (other, _) => other,
     }
 }
 

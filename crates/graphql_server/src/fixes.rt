@@ -1,12 +1,12 @@
 //! What mends a text (Language Server Protocol 3.17, "Code Action Request").
 
-use crate::diagnostics::{diagnostic_of, found_in, other_of, range_of};
+use crate::diagnostics::{diagnostic_of, found_in, other_place, range_of};
 use crate::line_ends::{line_end_of, with_line_end};
 use crate::messages::{write_diagnostic, write_edit};
 use crate::results::Asked;
 use crate::writer::JsonWriter;
 use graphql_parser::Limits;
-use graphql_texts::{Diagnosis, Fix, Language, Other};
+use graphql_texts::{Diagnosis, Fix, Missing, Other};
 use std::alloc::AllocError;
 use text_edits::Range;
 
@@ -25,9 +25,10 @@ pub fn write_fixes(
     let language = asked.language()?;
     json.begin_list();
     for diagnosis in found_in(asked.alloc, language, asked.document)? {
-        let other = other_of(asked.alloc, language, asked.text(), &diagnosis)?;
+        let missing = diagnosis.missing(asked.alloc, language, asked.text(), Limits::default())?;
+        let other = other_place(asked.text(), &diagnosis, missing.as_ref());
         if touches(asked, range, &diagnosis, other) {
-            write_action(asked, language, diagnosis, other, json)?;
+            write_action(asked, diagnosis, missing.as_ref(), other, json)?;
         }
     }
     json.end_list();
@@ -53,13 +54,12 @@ fn touches(asked: Asked<'_>, range: Range, diagnosis: &Diagnosis, other: Option<
 // Writes a "CodeAction" if there is a fix for this. Its "WorkspaceEdit" is of one text.
 fn write_action(
     asked: Asked<'_>,
-    language: Language,
     diagnosis: Diagnosis,
+    missing: Option<&Missing>,
     other: Option<Other>,
     json: &mut JsonWriter,
 ) -> Result<(), AllocError> {
-    let limits = Limits::default();
-    let Some(fix) = diagnosis.fix(asked.alloc, language, asked.text(), limits)? else {
+    let Some(fix) = diagnosis.fix(asked.alloc, asked.text(), missing)? else {
         return Ok(());
     };
     let document = asked.document;

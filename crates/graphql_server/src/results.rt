@@ -129,6 +129,7 @@ impl<'s> Asked<'s> {
             self.language()?,
             self.client.encoding,
             self.document,
+            self.client.shows_related,
         )
     }
 

@@ -34,7 +34,7 @@ pub struct Missing {
 
 impl Missing {
     /// Where the inmost of them stands, as a byte offset.
-    pub fn opening(&self) -> usize {
+    pub(crate) fn start(&self) -> usize {
         match self.gap.open.last() {
             Some(inmost) => inmost.start,
             None => self.gap.next,
@@ -42,7 +42,7 @@ impl Missing {
     }
 
     /// What closes them.
-    pub fn closing(&self, alloc: Global, text: &str) -> Result<Closing, AllocError> {
+    pub(crate) fn closing(&self, alloc: Global, text: &str) -> Result<Closing, AllocError> {
         closing_at(alloc, text, &self.gap, self.count)
     }
 }
