@@ -5,7 +5,7 @@ use crate::client::Client;
 use crate::methods::Method;
 use crate::writer::JsonWriter;
 use json::Value;
-use text_edits::{Position, Range};
+use text_edits::Range;
 
 /// The name of a request, which its answer has too ("Request Message"); null for what is no message.
 #[derive(Clone, Copy)]
@@ -74,23 +74,6 @@ fn text_of<'a>(message: &Value<'a>, name: &str) -> Option<&'a str> {
 
 // ---- What is sent
 
-fn write_position(position: Position, json: &mut JsonWriter) {
-    json.begin_object();
-    json.size_member("line", position.line);
-    json.size_member("character", position.character);
-    json.end_object();
-}
-
-/// Writes a member that is a range of a text.
-pub fn write_range(name: &str, range: Range, json: &mut JsonWriter) {
-    json.object_member(name);
-    json.name("start");
-    write_position(range.start, json);
-    json.name("end");
-    write_position(range.end, json);
-    json.end_object();
-}
-
 /// "Diagnostic".
 #[derive(Drop)]
 pub struct Diagnostic<'a> {
@@ -120,7 +103,7 @@ pub fn write_diagnostics(
 /// Writes a diagnostic for a client.
 pub fn write_diagnostic(diagnostic: &Diagnostic<'_>, client: &Client, json: &mut JsonWriter) {
     json.begin_object();
-    write_range("range", diagnostic.range, json);
+    json.range_member("range", diagnostic.range);
     json.size_member("severity", ERROR);
     json.text_member("code", diagnostic.code);
     json.text_member("source", "gql");
@@ -157,14 +140,14 @@ pub struct Location<'a> {
 pub fn write_location(location: Location<'_>, json: &mut JsonWriter) {
     json.begin_object();
     json.text_member("uri", location.uri);
-    write_range("range", location.range, json);
+    json.range_member("range", location.range);
     json.end_object();
 }
 
 /// Writes what is put in the place of a part of a text ("TextEdit").
 pub fn write_edit(range: Range, new: &str, json: &mut JsonWriter) {
     json.begin_object();
-    write_range("range", range, json);
+    json.range_member("range", range);
     json.text_member("newText", new);
     json.end_object();
 }

@@ -1,7 +1,7 @@
 //! Where names are defined and used, and what they name (Language Server Protocol 3.17, "Goto Definition Request", "Find References
 //! Request", "Hover Request").
 
-use crate::messages::{Location, write_location, write_range};
+use crate::messages::{Location, write_location};
 use crate::places::Places;
 use crate::results::Asked;
 use crate::writer::JsonWriter;
@@ -77,7 +77,7 @@ pub fn write_hover(
             json.begin_object();
             write_contents(asked, hover.markdown.as_str(), json);
             let range = places.range_of(hover.span.start, hover.span.end);
-            write_range("range", range, json);
+            json.range_member("range", range);
             json.end_object();
         }
     }

@@ -1,6 +1,5 @@
 //! The outline of a text (Language Server Protocol 3.17, "Document Symbols Request").
 
-use crate::messages::write_range;
 use crate::navigation::write_span;
 use crate::places::Places;
 use crate::results::Asked;
@@ -38,9 +37,9 @@ fn write_nested(asked: Asked<'_>, symbols: &[Symbol], places: &Places<'_>, json:
             json.text_member("detail", slice_of(asked.text(), detail));
         }
         let Symbol { whole, name, .. } = *symbol;
-        write_range("range", places.range_of(whole.start, whole.end), json);
+        json.range_member("range", places.range_of(whole.start, whole.end));
         let name = places.range_of(name.start, name.end);
-        write_range("selectionRange", name, json);
+        json.range_member("selectionRange", name);
         json.list_member("children");
         open = open.min(symbol.depth).saturating_add(1);
     }

@@ -1,6 +1,5 @@
 //! What a selection grows to (Language Server Protocol 3.17, "Selection Range Request").
 
-use crate::messages::write_range;
 use crate::places::Places;
 use crate::results::Asked;
 use crate::writer::JsonWriter;
@@ -31,7 +30,7 @@ pub fn write_selection(
             json.name("parent");
         }
         json.begin_object();
-        write_range("range", places.range_of(span.start, span.end), json);
+        json.range_member("range", places.range_of(span.start, span.end));
     }
     for _ in 0..spans.len() {
         json.end_object();

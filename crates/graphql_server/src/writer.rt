@@ -1,11 +1,17 @@
 //! JSON that is written value by value.
 
+use itoa::Buffer;
 use std::alloc::{AllocError, Global};
+use std::mem;
+use text_edits::{Position, Range};
 
-/// A text of JSON that is being written. Once memory has run out, nothing more is written, and [`JsonWriter::finish`] fails.
+/// A text of JSON that is being written. Once memory has run out, nothing more is written, and [`JsonWriter::finish`] fails. It is
+/// not the kit's writer, since most of an outline are ranges, which are written here in few pieces.
 #[derive(Drop)]
 pub struct JsonWriter {
-    tokens: json::Writer,
+    json: String,
+    // Whether a comma comes before the next value or name.
+    needs_comma: bool,
     // The words of the text that is written next.
     said: String,
     has_failed: bool,
@@ -15,7 +21,8 @@ impl JsonWriter {
     /// A text to which nothing was written. It takes no memory.
     pub fn new(alloc: Global) -> JsonWriter {
         JsonWriter {
-            tokens: json::Writer::new(Vec::new(alloc)),
+            json: String::new(alloc),
+            needs_comma: false,
             said: String::new(alloc),
             has_failed: false,
         }
@@ -28,14 +35,14 @@ impl JsonWriter {
         let mut json = self;
         json.end_object();
         let JsonWriter {
-            tokens,
+            json,
             has_failed,
             ..
         } = json;
         if has_failed {
             return Err(AllocError);
         }
-        Ok(tokens.into_inner())
+        Ok(json.into_bytes())
     }
 
     // Remembers whether memory ran out.
@@ -43,55 +50,98 @@ impl JsonWriter {
         self.has_failed = self.has_failed || written.is_err();
     }
 
+    // Writes a piece of the text.
+    fn push(&mut self, piece: &str) {
+        if !self.has_failed {
+            self.has_failed = self.json.push_str(piece).is_err();
+        }
+    }
+
+    // Begins a value or a member with this piece.
+    fn begin(&mut self, piece: &str) {
+        if self.needs_comma {
+            self.push(",");
+        }
+        self.push(piece);
+    }
+
+    // Writes a value that is this piece.
+    fn value(&mut self, piece: &str) {
+        self.begin(piece);
+        self.needs_comma = true;
+    }
+
     pub fn begin_object(&mut self) {
-        let written = self.tokens.begin_object();
-        self.note(written);
+        self.begin("{");
+        self.needs_comma = false;
     }
 
     pub fn end_object(&mut self) {
-        let written = self.tokens.end_object();
-        self.note(written);
+        self.push("}");
+        self.needs_comma = true;
     }
 
     pub fn begin_list(&mut self) {
-        let written = self.tokens.begin_array();
-        self.note(written);
+        self.begin("[");
+        self.needs_comma = false;
     }
 
     pub fn end_list(&mut self) {
-        let written = self.tokens.end_array();
-        self.note(written);
+        self.push("]");
+        self.needs_comma = true;
     }
 
     /// Writes the name of a member, whose value is written next.
     pub fn name(&mut self, name: &str) {
-        let written = self.tokens.key(name);
-        self.note(written);
+        self.text(name);
+        self.push(":");
+        self.needs_comma = false;
     }
 
     pub fn text(&mut self, text: &str) {
-        let written = self.tokens.string(text);
-        self.note(written);
+        self.begin("\"");
+        let mut from = 0usize;
+        for (at, byte) in text.as_bytes().iter().enumerate() {
+            if is_escaped(*byte) {
+                self.push(text.get(from..at).unwrap_or(""));
+                self.push_escape(*byte);
+                from = at.saturating_add(1);
+            }
+        }
+        self.push(text.get(from..).unwrap_or(""));
+        self.push("\"");
+        self.needs_comma = true;
+    }
+
+    // Writes a character of one byte that is escaped.
+    fn push_escape(&mut self, byte: u8) {
+        match byte {
+            b'"' => self.push("\\\""),
+            b'\\' => self.push("\\\\"),
+            b'\n' => self.push("\\n"),
+            b'\r' => self.push("\\r"),
+            b'\t' => self.push("\\t"),
+            _ => {
+                let written = write!(self.json, "\\u{byte:04x}");
+                self.note(written);
+            }
+        }
     }
 
     pub fn integer(&mut self, number: i64) {
-        let written = self.tokens.i64(number);
-        self.note(written);
+        self.value(Buffer::new().format(number));
     }
 
     pub fn size(&mut self, number: usize) {
-        let written = self.tokens.u64(number as u64);
-        self.note(written);
+        self.value(Buffer::new().format(number));
     }
 
     pub fn boolean(&mut self, value: bool) {
-        let written = self.tokens.boolean(value);
-        self.note(written);
+        self.value(if value { "true" } else { "false" });
     }
 
     pub fn null(&mut self) {
-        let written = self.tokens.null();
-        self.note(written);
+        self.value("null");
     }
 
     // ---- Texts in parts
@@ -110,9 +160,9 @@ impl JsonWriter {
 
     /// Writes a member whose value is the words that were added.
     pub fn said_member(&mut self, name: &str) {
-        self.name(name);
-        let written = self.tokens.string(self.said.as_str());
-        self.note(written);
+        let empty = String::new(*self.said.allocator());
+        let said = mem::replace(&mut self.said, empty);
+        self.text_member(name, said.as_str());
     }
 
     // ---- Members of an object
@@ -143,4 +193,28 @@ impl JsonWriter {
         self.name(name);
         self.boolean(value);
     }
+
+    /// Writes a member that is a range of a text.
+    pub fn range_member(&mut self, name: &str, range: Range) {
+        self.name(name);
+        self.push("{\"start\":");
+        self.push_position(range.start);
+        self.push(",\"end\":");
+        self.push_position(range.end);
+        self.end_object();
+    }
+
+    // Writes a position.
+    fn push_position(&mut self, position: Position) {
+        self.push("{\"line\":");
+        self.push(Buffer::new().format(position.line));
+        self.push(",\"character\":");
+        self.push(Buffer::new().format(position.character));
+        self.push("}");
+    }
+}
+
+// Whether this byte of a text is a character that JSON escapes (RFC 8259, section 7).
+fn is_escaped(byte: u8) -> bool {
+    byte < b' ' || byte == b'"' || byte == b'\\'
 }
