@@ -128,40 +128,35 @@ fn source_of(language: Language, text: &str, limits: Limits) -> Source<'_>
 }
 
 impl Diagnosis {
-    /// Where the bracket was opened that isn't closed, if that is what is wrong, of the text that this is a diagnosis
-    /// of.
+    /// The brackets that aren't closed, if that is what is wrong with the text that this is a diagnosis of, which was
+    /// read as this language within these limits.
     ///
     /// An error says that memory was denied.
-    pub fn opening(
+    pub fn missing(
         &self,
         alloc: Global,
         language: Language,
         text: &str,
         limits: Limits,
-    ) -> Result<Option<Other>, AllocError>
-        ensures { IfOk result (λ other. IfSome other (λ other. IsWithin text.now other.span)) }
-    {
-        let source = source_of(language, text, limits);
-        let Some(missing) = self.missing(alloc, &source)? else {
+    ) -> Result<Option<Missing>, AllocError> {
+        let Repair::Brackets(from) = self.repair else {
             return Ok(None);
         };
-        let start = missing.opening();
-        Ok(Some(Other {
-            span: span_at(text, start, start.saturating_add(1)),
-            message: NOT_CLOSED,
-        }))
+        match token_at(text, self.span.start) {
+            Some(token) => missing_of(alloc, &source_of(language, text, limits), from, &token),
+            None => Ok(None),
+        }
     }
 
     /// What mends the text that this is a diagnosis of, if it is known: the word that may have been meant, or what
-    /// closes the brackets that are open.
+    /// closes the brackets that [`missing`](Diagnosis::missing) returns.
     ///
     /// An error says that memory was denied.
     pub fn fix(
         &self,
         alloc: Global,
-        language: Language,
         text: &str,
-        limits: Limits,
+        missing: Option<&Missing>,
     ) -> Result<Option<Fix>, AllocError>
         ensures { IfOk result (λ fix. IfSome fix (λ fix. IsWithin text.now fix.span)) }
     {
@@ -172,21 +167,22 @@ impl Diagnosis {
                 new: String::from_str(alloc, word)?,
             }));
         }
-        let source = source_of(language, text, limits);
-        match self.missing(alloc, &source)? {
-            Some(missing) => Ok(Some(insertion_of(alloc, text, &missing)?)),
+        match missing {
+            Some(missing) => Ok(Some(insertion_of(alloc, text, missing)?)),
             None => Ok(None),
         }
     }
+}
 
-    // The brackets that aren't closed, if that is what is wrong with the text.
-    fn missing(&self, alloc: Global, source: &Source<'_>) -> Result<Option<Missing>, AllocError> {
-        let Repair::Brackets(from) = self.repair else {
-            return Ok(None);
-        };
-        match token_at(source.text, self.span.start) {
-            Some(token) => missing_of(alloc, source, from, &token),
-            None => Ok(None),
+impl Missing {
+    /// Where the inmost of them was opened, and what is said of it.
+    pub fn opening(&self, text: &str) -> Other
+        ensures { IsWithin text.now result.span }
+    {
+        let start = self.inmost();
+        Other {
+            span: span_at(text, start, start.saturating_add(1)),
+            message: NOT_CLOSED,
         }
     }
 }

@@ -15,5 +15,6 @@ pub mod language;
 pub mod recovery;
 pub mod rewriting;
 
+pub use closing::Missing;
 pub use diagnoses::{Diagnosis, Fix, Other, Span, diagnoses_from, diagnoses_of};
 pub use graphql_report::Language;
