@@ -297,18 +297,18 @@ fn marks_of_definitions(
 {
     let offsets = error_offsets(alloc, told.text, &mistake.error)?;
     let first = span_of_words(source.text, mistake.offset_in_text(offsets.first));
-    let Some((offset, message)) = offsets.second else {
+    let Some(second) = offsets.second else {
         return Ok(Marks {
             span: first,
             other: None,
         });
     };
-    let second = span_of_words(source.text, mistake.offset_in_text(offset));
+    let span = span_of_words(source.text, mistake.offset_in_text(second.offset));
     Ok(Marks {
         span: first,
         other: Some(Other {
-            span: second,
-            message,
+            span,
+            message: second.remark,
         }),
     })
 }
