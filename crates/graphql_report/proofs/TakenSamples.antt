@@ -1,11 +1,11 @@
 -- The samples that are taken, one more at a time.
-use Rattle.std.proofs.Common.{◌≡◌, ℕ, ◌+◌, ◌<◌, Bool, true, false, cond, List, [], ◌∷◌, ◌++◌, length, take, get_or, refl, sym, ap, ◌∙◌, subst, append_assoc}
+use Rattle.std.proofs.Common.{◌≡◌, ℕ, ◌+◌, ◌<◌, Bool, true, false, cond, List, [], ◌∷◌, ◌++◌, length, take, get_or, refl, sym, ap, ◌∙◌, subst}
 use Rattle.std.proofs.lemmas.List.{take_more, map_push}
 use Rattle.std.specs.Borrow.{Bor}
 use Rattle.graphql_reading.specs.grammar.Limits.{Limits}
 use Rattle.graphql_report.specs.declared.fronts.Language.{Language}
 use Rattle.graphql_report.specs.reports.Expected.{TellsFrontOf, with_sample, Samples, AreTaken}
-use Rattle.graphql_report.specs.inner.Called.{AddsTaken, samples_of}
+use Rattle.graphql_report.specs.inner.Called.{samples_of}
 
 -- a sample as the code has it
 abbrev Sample : Type 0
@@ -29,17 +29,17 @@ taken-more language limits front (x ∷ samples) names text name answer h told =
 )
 
 -- one sample of the code's more, which is taken or isn't
-pub taken-next : (language : Language) (limits : Limits) (front : List ℕ) (samples : List Sample) (k : ℕ) (d : Sample) (old names after : List (List ℕ)) (answer value : Bool)
+pub taken-next : (language : Language) (limits : Limits) (front here : List ℕ) (samples : List Sample) (k : ℕ) (d : Sample) (names after : List (List ℕ)) (answer value : Bool)
     → k < length samples
-    → AddsTaken language limits front (samples_of (take k samples)) old names
-    → TellsFrontOf language limits (with_sample front (get_or samples k d).0.now) answer
+    → here ≡ front
+    → AreTaken language limits front (samples_of (take k samples)) names
+    → TellsFrontOf language limits (with_sample here (get_or samples k d).0.now) answer
     → answer ≡ value
     → after ≡ names ++ cond value ((get_or samples k d).1.now ∷ []) []
-    → AddsTaken language limits front (samples_of (take (k + 1) samples)) old after
-taken-next language limits front samples k d old names after answer value h taken told is e =
+    → AreTaken language limits front (samples_of (take (k + 1) samples)) after
+taken-next language limits front here samples k d names after answer value h same taken told is e =
     let s : Sample = get_or samples k d in
-    let next : List (List ℕ) = cond value (s.1.now ∷ []) [] in
-    let tells : TellsFrontOf language limits (with_sample front s.0.now) value = subst (λ (b : Bool). TellsFrontOf language limits (with_sample front s.0.now) b) is told in
-    let more : AreTaken language limits front (samples_of (take k samples) ++ (s.0.now, s.1.now) ∷ []) (taken.0 ++ next) = taken-more language limits front (samples_of (take k samples)) taken.0 s.0.now s.1.now value taken.1 tells in
+    let tells : TellsFrontOf language limits (with_sample front s.0.now) value = subst (λ (b : Bool). TellsFrontOf language limits (with_sample front s.0.now) b) is (subst (λ (f : List ℕ). TellsFrontOf language limits (with_sample f s.0.now) answer) same told) in
+    let more : AreTaken language limits front (samples_of (take k samples) ++ (s.0.now, s.1.now) ∷ []) (names ++ cond value (s.1.now ∷ []) []) = taken-more language limits front (samples_of (take k samples)) names s.0.now s.1.now value taken tells in
     let one-more : samples_of (take (k + 1) samples) ≡ samples_of (take k samples) ++ (s.0.now, s.1.now) ∷ [] = ap samples_of (take_more samples k d h) ∙ map_push (λ (s : Sample). (s.0.now, s.1.now)) (take k samples) s in
-    (taken.0 ++ next, subst (λ (l : Samples). AreTaken language limits front l (taken.0 ++ next)) (sym one-more) more, e ∙ ap (λ (l : List (List ℕ)). l ++ next) taken.2 ∙ append_assoc old taken.0 next)
+    subst (λ (l : Samples). AreTaken language limits front l after) (sym one-more) (subst (λ (n : List (List ℕ)). AreTaken language limits front (samples_of (take k samples) ++ (s.0.now, s.1.now) ∷ []) n) (sym e) more)

@@ -8,7 +8,7 @@ use Rattle.graphql_tokens.specs.declared.pos.Pos.{Pos}
 use Rattle.graphql_tokens.specs.tokens.Cuts.{IsCutInto}
 use Rattle.graphql_tokens.specs.tokens.Token.{Token}
 use Rattle.graphql_tokens.proofs.Lists.{tokens_only}
-use Rattle.graphql_report.specs.reports.Offsets.{IsTokenOf, HasNoTokenAt, IsOffsetOf}
+use Rattle.graphql_report.specs.reports.Offsets.{HasNoTokenAt, IsOffsetOf}
 
 -- The text's tokens are some that were passed, and these. None of those is at the place, and the offset is the length of the text; or
 -- it is that of a token that is.

@@ -1,8 +1,8 @@
 -- Lists of what is expected, as they are told.
-use Rattle.std.proofs.Common.{◌≡◌, ◌<◌, ◌≤◌, ◌+◌, ◌==◌, ℕ, Bool, true, false, ◌-◌, ◌^◌, ◌⊎◌, inl, inr, length, length-drop, length-map, drop, get_or, arith, ◌||◌, if◌then◌else◌, List, [], ◌∷◌, ◌++◌, map, take, refl, sym, ap, ◌∙◌, append_assoc, append-nil, length-append}
+use Rattle.std.proofs.Common.{◌≡◌, ◌<◌, ◌≤◌, ◌+◌, ◌==◌, ℕ, Bool, true, false, ◌-◌, ◌^◌, ◌⊎◌, inl, inr, length, length-drop, drop, get_or, arith, ◌||◌, if◌then◌else◌, List, [], ◌∷◌, ◌++◌, map, take, refl, sym, ap, ◌∙◌, append_assoc, append-nil, length-append}
 use Rattle.std.proofs.lemmas.Bool.{cases_lt}
 use Rattle.std.proofs.lemmas.Bool.Decides.{nat_tests}
-use Rattle.std.proofs.lemmas.List.{take-append-drop, drop_all, drop_more, map-append}
+use Rattle.std.proofs.lemmas.List.{take-append-drop, drop_all, drop_more, length-map, map-append}
 use Rattle.std.proofs.lemmas.Str.{encodes-append, encodes-chars, length-le-encodes}
 use Rattle.std.specs.Prelude.{codes, min, nat_lt}
 use Rattle.std.specs.Str.{chars, encode_utf8_all, IsUtf8}
@@ -94,7 +94,7 @@ pub next-told : (told : List ℕ → List ℕ) (names : List (Bor (List ℕ))) (
 next-told told names k d out before one two all h is words e f =
     let name : List ℕ = (get_or names k d).now in
     let rest : List (List ℕ) = texts (drop (k + 1) names) in
-    let size : length rest ≡ length names - (k + 1) = length-map (λ (n : Bor (List ℕ)). n.now) (drop (k + 1) names) ∙ length-drop (k + 1) names in
+    let size : length rest ≡ length names - (k + 1) = length-map (drop (k + 1) names) (λ (n : Bor (List ℕ)). n.now) ∙ length-drop (k + 1) names in
     let never : (k + 1 == 0) ≡ false = grind (arith, nat_tests) in
     let others : List ℕ = or_others told rest in
     ap (λ (b : Bool). two ++ told_from told b rest) never

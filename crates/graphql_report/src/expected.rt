@@ -1,10 +1,10 @@
 //! What could have stood in place of the rejected token.
-ghost use Rattle.std.specs.Prelude.{◌≡◌, IfOk, IfSome, OnOk};
+ghost use Rattle.std.specs.Prelude.{◌≡◌, IfOk, IfSome};
 ghost use Rattle.std.specs.Str.{chars};
 ghost use Rattle.graphql_report.specs.fronts.Front.{LastIsLineFeed};
 ghost use Rattle.graphql_report.specs.inner.Left.{IsLeftOf};
-ghost use Rattle.graphql_report.specs.inner.Called.{AddsTaken, NamesAll, NamesOnly, samples_of, texts};
-ghost use Rattle.graphql_report.specs.reports.Expected.{AreExpected, value_names};
+ghost use Rattle.graphql_report.specs.reports.Expected.{AreExpected, AreTaken, value_names};
+ghost use Rattle.graphql_report.specs.inner.Called.{NamesAll, NamesOnly, samples_of, texts};
 
 use crate::fronts::Language;
 use crate::left::left_after;
@@ -14,28 +14,28 @@ use crate::samples::{END, KEYWORDS, LITERALS, NAME, NAME_TEXT, PUNCTUATORS, Samp
 use graphql_parser::Limits;
 use std::alloc::{AllocError, Global};
 
-// Adds the names of those of the samples that can stand after this line, after which this is left, if it is known.
-fn push_taken(
+// The names of those of the samples that can stand after this line, after which this is left, if it is known.
+fn taken(
     alloc: Global,
-    names: &mut Vec<&'static str>,
     language: Language,
     limits: Limits,
     line: &str,
     left: &Option<Vec<Phrase>>,
     samples: &[Sample],
-) -> Result<(), AllocError>
+) -> Result<Vec<&'static str>, AllocError>
     requires line { LastIsLineFeed (chars line.now) }
     requires left { IfSome left.now (λ left. IsLeftOf language limits line.now left.items) }
-    ensures { OnOk result (AddsTaken language limits line.now (samples_of samples.now) (texts names.old.items)
-        (texts names.new.items)) }
+    ensures { IfOk result (λ names.
+        AreTaken language limits line.now (samples_of samples.now) (texts names.items)) }
 {
+    let mut taken = Vec::new(alloc);
     for sample in samples {
         let (text, name) = *sample;
         if takes(alloc, language, limits, line, left, text)? {
-            names.push(name)?;
+            taken.push(name)?;
         }
     }
-    Ok(())
+    Ok(taken)
 }
 
 /// What is expected after a front: each sample such that some document within the limits begins with the front and the
@@ -70,29 +70,16 @@ fn expected_in(
     let line = text.as_str();
     let left = left_after(alloc, language, line, limits)?;
     let has_name = takes(alloc, language, limits, line, &left, NAME_TEXT)?;
-    let mut literals = Vec::new(alloc);
-    push_taken(
-        alloc,
-        &mut literals,
-        language,
-        limits,
-        line,
-        &left,
-        &LITERALS,
-    )?;
+    let literals = taken(alloc, language, limits, line, &left, &LITERALS)?;
+    let punctuators = taken(alloc, language, limits, line, &left, &PUNCTUATORS)?;
+    let keywords = if has_name {
+        Vec::new(alloc)
+    } else {
+        taken(alloc, language, limits, line, &left, &KEYWORDS)?
+    };
     let mut names = names_of_values(alloc, has_name, literals.as_slice())?;
-    push_taken(
-        alloc,
-        &mut names,
-        language,
-        limits,
-        line,
-        &left,
-        &PUNCTUATORS,
-    )?;
-    if !has_name {
-        push_taken(alloc, &mut names, language, limits, line, &left, &KEYWORDS)?;
-    }
+    names.extend_from_slice(punctuators.as_slice())?;
+    names.extend_from_slice(keywords.as_slice())?;
     if ends(alloc, language, limits, line, &left)? {
         names.push(END)?;
     }

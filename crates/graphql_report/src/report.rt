@@ -89,8 +89,9 @@ pub fn explain_from(
         read.now.from read.now.unclosed error.now (string_bytes report)) }
 {
     let finding = finding_from(alloc, language, text, read, limits, error)?;
+    let (place, caret) = (finding.place, finding.caret);
     let message = finding.message.as_str();
-    let Some(place) = finding.place else {
+    let Some(place) = place else {
         return placeless_report(alloc, file_name, message);
     };
     let source = &Source {
@@ -99,7 +100,7 @@ pub fn explain_from(
         text,
     };
     let offsets = error_offsets(alloc, text, error)?;
-    let caret = finding.caret.unwrap_or(offsets.first);
+    let caret = caret.unwrap_or(offsets.first);
     let mut report = String::new(alloc);
     push_part(alloc, &mut report, source, place, caret, message)?;
     if let Some(second) = offsets.second {
@@ -115,17 +116,17 @@ pub fn explain_from(
 
 // A text, and how a report of it is written.
 #[derive(Clone, Copy)]
-struct Source<'a> {
+struct Source<'a, 'b> {
     style: Style,
     file_name: &'a str,
-    text: &'a str,
+    text: &'b str,
 }
 
 // Adds a place, the message that is said of it, and the line of the place.
 fn push_part(
     alloc: Global,
     out: &mut String,
-    source: &Source<'_>,
+    source: &Source<'_, '_>,
     place: Pos,
     offset: usize,
     message: &str,

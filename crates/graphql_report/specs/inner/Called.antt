@@ -19,7 +19,7 @@ use Rattle.graphql_requests.specs.grammar.Requests.{requests}
 use Rattle.graphql_schemas.specs.grammar.Schemas.{schemas}
 use Rattle.graphql_report.specs.declared.fronts.Language.{Language}
 use Rattle.graphql_report.specs.declared.fronts.Language.TheVariants.{Requests, Schemas}
-use Rattle.graphql_report.specs.reports.Expected.{AreTaken, HasTreeOf, Samples, quoted, number_name, string_name, location_name, name_name, value_name, end_name}
+use Rattle.graphql_report.specs.reports.Expected.{HasTreeOf, Samples, quoted, number_name, string_name, location_name, name_name, value_name, end_name}
 
 -- ---- what the code has
 
@@ -30,10 +30,6 @@ samples_of samples = map (λ s. (s.0.now, s.1.now)) samples
 -- names as the code has them
 abbrev pub texts : List (Bor (List ℕ)) → List (List ℕ)
 texts names = map (λ name. name.now) names
-
--- after these names those of the samples are put with which the front is viable
-abbrev pub AddsTaken : Language → Limits → List ℕ → Samples → List (List ℕ) → List (List ℕ) → Type 0
-AddsTaken language limits front samples old new = (taken : List (List ℕ)) × AreTaken language limits front samples taken × (new ≡ old ++ taken)
 
 -- ---- what they say of tokens
 

@@ -6,7 +6,7 @@ use Rattle.graphql_report.specs.reports.Findings.{limit_words}
 use Rattle.graphql_report.specs.reports.Hints.{unclosed_hint, unclosed_part}
 use Rattle.graphql_report.proofs.Refusing.{known-place, not-known, ends-there}
 use Rattle.graphql_report.proofs.findings.limit_finding.Goals as goal
-use Rattle.graphql_report.proofs.findings.limit_finding.Goals.{in-Some-read+in_ok-push_unclosed, in_default-read}
+use Rattle.graphql_report.proofs.findings.limit_finding.Goals.{in-Some-unclosed+in_ok-push_unclosed, in_default-unclosed}
 
 pub returns-in_default : goal.returns-in_default
 returns-in_default c = record {
@@ -21,9 +21,9 @@ returns c =
     let short : length c.args.text.now < 2 ^ 63 = omega arith in
     let words : List ℕ = limit_words c.in_ok-depth.depth.what.now c.in_ok-depth.depth.most in
     let limit : List ℕ = codes "recursion limit exceeded" in
-    let told : string_bytes c.match-read.message ≡ limit ++ (words ++ unclosed_part c.args.read.now.unclosed) = elim c.match-read.branch [
-      | in-Some-read+in_ok-push_unclosed w ↦ ap string_bytes w.message-is ∙ w.in_ok-push_unclosed.ensures ∙ ap (λ (l : List ℕ). l ++ unclosed_hint w.in-Some-read.place) c.in_ok-message.ensures.ok ∙ ap (λ (u : Option Pos). limit ++ (words ++ unclosed_part u)) (sym w.in-Some-read.is)
-      | in_default-read w ↦ ap string_bytes w.message-is ∙ c.in_ok-message.ensures.ok ∙ ap (λ (l : List ℕ). limit ++ l) (sym (append-nil words)) ∙ ap (λ (u : Option Pos). limit ++ (words ++ unclosed_part u)) (sym w.in_default-read.is)
+    let told : string_bytes c.match-read-2.message ≡ limit ++ (words ++ unclosed_part c.args.read.now.unclosed) = elim c.match-read-2.branch [
+      | in-Some-unclosed+in_ok-push_unclosed w ↦ ap string_bytes w.message-is ∙ w.in_ok-push_unclosed.ensures ∙ ap (λ (l : List ℕ). l ++ unclosed_hint w.in-Some-unclosed.place) c.in_ok-message.ensures.ok ∙ ap (λ (u : Option Pos). limit ++ (words ++ unclosed_part u)) (sym w.in-Some-unclosed.is)
+      | in_default-unclosed w ↦ ap string_bytes w.message-is ∙ c.in_ok-message.ensures.ok ∙ ap (λ (l : List ℕ). limit ++ l) (sym (append-nil words)) ∙ ap (λ (u : Option Pos). limit ++ (words ++ unclosed_part u)) (sym w.in_default-unclosed.is)
     ] in
     record {
       stands = (c.place_of-2.result, refl, (c.place_of-2.ensures.inside, λ token known. known-place c.args.language c.args.limits c.args.text.now c.args.read.now token c.in-Some.token c.place_of-2.result c.utf8.text c.requires c.in-Some.is known c.place_of-2.ensures.place));
