@@ -4,15 +4,15 @@ use Rattle.std.specs.Prelude.{min, nat_lt}
 use Rattle.std.proofs.lemmas.Bool.Decides.{nat_tests}
 use Rattle.std.proofs.lemmas.List.{drop-drop}
 use Rattle.std.proofs.lemmas.Str.{chars-nil, IsUtf8-drop, IsCharBoundary-from_rest}
-use Rattle.std.specs.Str.{chars, IsUtf8, IsCharBoundary, encode_utf8_all}
+use Rattle.std.specs.Str.{byte, chars, IsUtf8, IsCharBoundary, encode_utf8_all}
 use Rattle.graphql_tokens.proofs.Chars.{chars_split}
 use Rattle.graphql_tokens.specs.declared.lexer.TokenKind.TheVariants.{Fault}
 use Rattle.graphql_tokens.specs.declared.pos.Pos.{Pos}
 use Rattle.graphql_tokens.specs.tokens.Place.{place}
 use Rattle.graphql_tokens.specs.tokens.Token.{Token}
-use Rattle.graphql_report.specs.inner.Carets.{TellsEscape, HasNoBadEscape, IsWrongAfter, IsAtBackslash, IsCaretAt}
+use Rattle.graphql_report.specs.inner.Carets.{TellsEscape, HasNoBadEscape, IsWrongAfter}
 use Rattle.graphql_report.specs.reports.Escapes.{HasBadEscape, IsBadEscapeOf}
-use Rattle.graphql_report.specs.reports.Reports.{IsToldAt}
+use Rattle.graphql_report.specs.reports.Findings.{IsToldAt}
 use Rattle.graphql_report.proofs.StringTexts.{at-escape}
 
 -- ---- how many bytes after a fault that shows
@@ -34,6 +34,15 @@ wrong-after text rest token passed fault (inr (bad, e)) is (inr empty) = absurd 
 
 -- ---- where the caret stands
 
+-- a backslash stands at this offset of the text
+abbrev IsAtBackslash : List ℕ → ℕ → Type 0
+IsAtBackslash text offset = IsCharBoundary text offset × ((rest : List ℕ) × (chars (drop offset text) ≡ byte "\\" ∷ rest))
+
+-- The caret stands inside the token just where that has a bad escape: at a backslash, with which the first of these begins.
+abbrev IsCaretAt : (Token → Type 0) → List ℕ → ℕ → Bool → Type 0
+IsCaretAt is_refused text offset false = (token : Token) → is_refused token → HasNoBadEscape text token
+IsCaretAt is_refused text offset true = IsAtBackslash text offset × ((token : Token) → is_refused token → IsBadEscapeOf text token offset)
+
 at-backslash : (text : List ℕ) (token : Token) (offset : ℕ) → IsUtf8 text → IsCharBoundary text token.start → IsBadEscapeOf text token offset → IsAtBackslash text offset
 at-backslash text token offset utf8 boundary (fault, (bad, e)) =
     let passed : ℕ = 1 + length (encode_utf8_all bad.content) in
@@ -42,7 +51,7 @@ at-backslash text token offset utf8 boundary (fault, (bad, e)) =
     subst (IsAtBackslash text) is (IsCharBoundary-from_rest text token.start passed boundary.0 at.boundary, (bad.next ∷ bad.rest, ap chars (sym (drop-drop passed token.start text)) ∙ at.back))
 
 -- the token that was looked at is the refused one
-pub caret-at : (is_refused : Token → Type 0) (text : List ℕ) (known : Token) (passed offset : ℕ) → IsUtf8 text → length text < 2 ^ 63 → ((token : Token) → is_refused token → (known ≡ token) × IsCharBoundary text token.start) → IsWrongAfter text known passed → offset ≡ min (known.start + passed) (2 ^ 64 - 1) → IsCaretAt is_refused text offset (nat_lt 0 passed)
+caret-at : (is_refused : Token → Type 0) (text : List ℕ) (known : Token) (passed offset : ℕ) → IsUtf8 text → length text < 2 ^ 63 → ((token : Token) → is_refused token → (known ≡ token) × IsCharBoundary text token.start) → IsWrongAfter text known passed → offset ≡ min (known.start + passed) (2 ^ 64 - 1) → IsCaretAt is_refused text offset (nat_lt 0 passed)
 caret-at is_refused text known passed offset utf8 short is (inl (none, good)) at = subst (λ n. IsCaretAt is_refused text offset (nat_lt 0 n)) (sym none) outside
   where
     outside : (token : Token) → is_refused token → HasNoBadEscape text token
@@ -57,8 +66,13 @@ caret-at is_refused text known passed offset utf8 short is (inr (boundary, bad))
 
 -- ---- which place is told
 
-pub told-at : (is_refused : Token → Type 0) (text : List ℕ) (start told : Pos) (offset : ℕ) (inside : Bool) → IsUtf8 text → IsCaretAt is_refused text offset inside → (inside ≡ false → told ≡ start) → (inside ≡ true → IsCharBoundary text offset → told ≡ place text offset) → IsToldAt is_refused text start told
+told-at : (is_refused : Token → Type 0) (text : List ℕ) (start told : Pos) (offset : ℕ) (inside : Bool) → IsUtf8 text → IsCaretAt is_refused text offset inside → (inside ≡ false → told ≡ start) → (inside ≡ true → IsCharBoundary text offset → told ≡ place text offset) → IsToldAt is_refused text start told
 told-at is_refused text start told offset false utf8 caret outside there = inl (outside refl, caret)
 told-at is_refused text start told offset true utf8 ((boundary, (rest, back)), caret) outside there =
     let at : told ≡ place text offset = there refl boundary in
     inr ((chars (take offset text), rest, chars_split text offset utf8 boundary ∙ ap (λ (l : List ℕ). chars (take offset text) ++ l) back, at), λ token refused. (offset, caret token refused, at))
+
+-- it is the place of the caret of the token that was looked at, which is the refused one
+pub told-there : (is_refused : Token → Type 0) (text : List ℕ) (start told : Pos) (known : Token) (passed offset : ℕ) → IsUtf8 text → length text < 2 ^ 63 → ((token : Token) → is_refused token → (known ≡ token) × IsCharBoundary text token.start) → IsWrongAfter text known passed → offset ≡ min (known.start + passed) (2 ^ 64 - 1)
+    → (nat_lt 0 passed ≡ false → told ≡ start) → (nat_lt 0 passed ≡ true → IsCharBoundary text offset → told ≡ place text offset) → IsToldAt is_refused text start told
+told-there is_refused text start told known passed offset utf8 short is wrong at outside there = told-at is_refused text start told offset (nat_lt 0 passed) utf8 (caret-at is_refused text known passed offset utf8 short is wrong at) outside there

@@ -19,7 +19,7 @@ mod Placed
 mod TokensOf
 mod WordLists
 mod Hinted
-mod Refusing
+pub mod Refusing
 mod Checks
 mod ReportParts
 mod Escapes

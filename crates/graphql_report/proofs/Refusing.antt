@@ -34,8 +34,8 @@ use Rattle.graphql_report.specs.declared.rests.ReadUpTo.{ReadUpTo}
 use Rattle.graphql_report.specs.inner.Told.{ReadsTo}
 use Rattle.graphql_report.specs.reports.Refused.{RefusesTheToken, IsRefusedAt, IsRefusedFrom, IsKnown, IsOfAToken, IsItsToken, in_text}
 use Rattle.graphql_report.specs.reports.Rests.{AreCounted, BeginsAt, IsMoved, top}
-use Rattle.graphql_report.specs.reports.Findings.{EndsAt, IsEndOf, IsFinding, IsMessage, StandsAt}
-use Rattle.graphql_report.specs.reports.Reports.{AreDetails, IsReport, IsLimitRemark, IsReportWith, IsToldAt, TellsToken}
+use Rattle.graphql_report.specs.reports.Findings.{AreDetails, EndsAt, IsEndOf, IsFinding, IsMessage, IsToldAt, StandsAt, TellsToken}
+use Rattle.graphql_report.specs.reports.Reports.{IsReport, IsReportWith}
 use Rattle.graphql_report.specs.reports.Hints.{word_of}
 use Rattle.graphql_report.specs.declared.findings.Finding.{Finding}
 use Rattle.graphql_report.specs.declared.style.Style.{Style}
@@ -267,27 +267,13 @@ ends-there language limits text read token lent end utf8 short begins is known t
         of-end text (chars first) lent end (tells (chars first) few (at-its-start language limits text read.from (seen lent) r)) (ap place_after joined)
 
 -- what is told of the token that is known is told of the refused one, where the text was read from its top
-details-known : (language : Language) (limits : Limits) (text : List ℕ) (read : ReadUpTo) (error : Error) (details : List ℕ) (asked : Option (List ℕ)) → read.from ≡ top → read.unclosed ≡ None → IsOfAToken error → IsItsToken language limits text top error read.token → AreDetails (IsKnown language limits text read) language limits text read.from read.unclosed details asked → AreDetails (IsRefusedFrom language limits text top) language limits text top None details asked
-details-known language limits text read error details asked is closed of its are = λ token r.
-    subst (λ (unclosed : Option Pos). TellsToken language limits text top unclosed token details asked) closed (subst (λ (from : ReadFrom). TellsToken language limits text from read.unclosed token details asked) is (are token (is-known language limits text read error is of its token r)))
+details-known : (language : Language) (limits : Limits) (text : List ℕ) (read : ReadUpTo) (error : Error) (details : List ℕ) (asked : Option (List ℕ)) → read.from ≡ top → IsOfAToken error → IsItsToken language limits text top error read.token → AreDetails (IsKnown language limits text read) language limits text read.from read.unclosed details asked → AreDetails (IsRefusedFrom language limits text top) language limits text top read.unclosed details asked
+details-known language limits text read error details asked is of its are = λ token r. subst (λ (from : ReadFrom). TellsToken language limits text from read.unclosed token details asked) is (are token (is-known language limits text read error is of its token r))
 
 -- and so is the place that is told
 told-known : (language : Language) (limits : Limits) (text : List ℕ) (read : ReadUpTo) (error : Error) (start told : Pos) → read.from ≡ top → IsOfAToken error → IsItsToken language limits text top error read.token → IsToldAt (IsKnown language limits text read) text start told → IsToldAt (IsRefusedFrom language limits text top) text start told
 told-known language limits text read error start told is of its (inl (same, none)) = inl (same, λ token r. none token (is-known language limits text read error is of its token r))
 told-known language limits text read error start told is of its (inr (at, bad)) = inr (at, λ token r. bad token (is-known language limits text read error is of its token r))
-
--- and what is said of a limit
-remark-known : (language : Language) (limits : Limits) (text : List ℕ) (read : ReadUpTo) (more : List ℕ) → read.from ≡ top → read.unclosed ≡ None → IsItsToken language limits text top errors.RecursionLimitExceeded read.token → ((token : Token) → IsKnown language limits text read token → IsLimitRemark limits read.unclosed more) → (token : Token) → IsRefusedFrom language limits text top token → IsLimitRemark limits None more
-remark-known language limits text read more is closed its remark token r = subst (λ (unclosed : Option Pos). IsLimitRemark limits unclosed more) closed (remark token (is-known language limits text read errors.RecursionLimitExceeded is tt its token r))
-
-pub report-known : (style : Style) (file : List ℕ) (language : Language) (limits : Limits) (text : List ℕ) (read : ReadUpTo) (error : Error) (report : List ℕ) → read.from ≡ top → read.unclosed ≡ None → IsItsToken language limits text top error read.token → IsReportWith style file (IsKnown language limits text read) language limits text read.from read.unclosed error report → IsReport style file (IsRefusedFrom language limits text top) language limits text top error report
-report-known style file language limits text read (errors.Syntax message start stop) report is closed its (at, details, asked, stands, are, tells) = (at, details, asked, told-known language limits text read (errors.Syntax message start stop) start at is tt its stands, details-known language limits text read (errors.Syntax message start stop) details asked is closed tt its are, tells)
-report-known style file language limits text read errors.RecursionLimitExceeded report is closed its (at, more, (inside, same), remark, tells) = (at, more, (inside, λ token r. same token (is-known language limits text read errors.RecursionLimitExceeded is tt its token r)), remark-known language limits text read more is closed its remark, tells)
-report-known style file language limits text read error report is closed its h = h
-
-pub reports-known : {E : Type 0} {R : Type 0} (bytes : R → List ℕ) (style : Style) (file : List ℕ) (language : Language) (limits : Limits) (text : List ℕ) (read : ReadUpTo) (error : Error) (result : Result R E) → read.from ≡ top → read.unclosed ≡ None → IsItsToken language limits text top error read.token → IfOk result (λ r. IsReportWith style file (IsKnown language limits text read) language limits text read.from read.unclosed error (bytes r)) → IfOk result (λ r. IsReport style file (IsRefusedFrom language limits text top) language limits text top error (bytes r))
-reports-known bytes style file language limits text read error (Err refused) is closed its h = tt
-reports-known bytes style file language limits text read error (Ok r) is closed its h = report-known style file language limits text read error (bytes r) is closed its h
 
 stands-known : (language : Language) (limits : Limits) (text : List ℕ) (read : ReadUpTo) (error : Error) (stands : Option Pos) → read.from ≡ top → IsItsToken language limits text top error read.token → StandsAt (IsKnown language limits text read) text error stands → StandsAt (IsRefusedFrom language limits text top) text error stands
 stands-known language limits text read (errors.Syntax message start stop) stands is its (at, there, h) = (at, there, told-known language limits text read (errors.Syntax message start stop) start at is tt its h)
@@ -299,19 +285,32 @@ ends-known language limits text read (errors.Syntax message start stop) end is i
 ends-known language limits text read errors.RecursionLimitExceeded end is its h = λ token r. h token (is-known language limits text read errors.RecursionLimitExceeded is tt its token r)
 ends-known language limits text read error end is its h = h
 
-message-known : (language : Language) (limits : Limits) (text : List ℕ) (read : ReadUpTo) (error : Error) (told : List ℕ) (meant : Option (List ℕ)) → read.from ≡ top → read.unclosed ≡ None → IsItsToken language limits text top error read.token → IsMessage (IsKnown language limits text read) language limits text read.from read.unclosed error told meant → IsMessage (IsRefusedFrom language limits text top) language limits text top None error told meant
-message-known language limits text read (errors.Syntax message start stop) told meant is closed its (details, same, are) = (details, same, details-known language limits text read (errors.Syntax message start stop) details meant is closed tt its are)
-message-known language limits text read errors.RecursionLimitExceeded told meant is closed its (none, (more, remark, same)) = (none, (more, remark-known language limits text read more is closed its remark, same))
-message-known language limits text read error told meant is closed its h = h
+message-known : (language : Language) (limits : Limits) (text : List ℕ) (read : ReadUpTo) (error : Error) (told : List ℕ) (meant : Option (List ℕ)) → read.from ≡ top → IsItsToken language limits text top error read.token → IsMessage (IsKnown language limits text read) language limits text read.from read.unclosed error told meant → IsMessage (IsRefusedFrom language limits text top) language limits text top read.unclosed error told meant
+message-known language limits text read (errors.Syntax message start stop) told meant is its (details, same, are) = (details, same, details-known language limits text read (errors.Syntax message start stop) details meant is tt its are)
+message-known language limits text read errors.RecursionLimitExceeded told meant is its (none, (more, remark, same)) = (none, (more, (λ token r. remark token (is-known language limits text read errors.RecursionLimitExceeded is tt its token r)), same))
+message-known language limits text read error told meant is its h = h
 
-pub finding-known : {E : Type 0} (language : Language) (limits : Limits) (text : List ℕ) (read : ReadUpTo) (error : Error) (result : Result Finding E) → read.from ≡ top → read.unclosed ≡ None → IsItsToken language limits text top error read.token → IfOk result (IsFinding (IsKnown language limits text read) language limits text read.from read.unclosed error) → IfOk result (IsFinding (IsRefusedFrom language limits text top) language limits text top None error)
-finding-known language limits text read error (Err refused) is closed its h = tt
-finding-known language limits text read error (Ok finding) is closed its h = record {
+-- so the finding is that of the refused token
+pub is-finding : (language : Language) (limits : Limits) (text : List ℕ) (read : ReadUpTo) (error : Error) (finding : Finding) → read.from ≡ top → IsItsToken language limits text top error read.token → IsFinding (IsKnown language limits text read) language limits text read.from read.unclosed error finding → IsFinding (IsRefusedFrom language limits text top) language limits text top read.unclosed error finding
+is-finding language limits text read error finding is its h = record {
   stands = stands-known language limits text read error finding.place is its h.stands;
   ends = ends-known language limits text read error finding.end is its h.ends;
   status = h.status;
-  message = message-known language limits text read error (string_bytes finding.message) (word_of finding.meant) is closed its h.message;
+  message = message-known language limits text read error (string_bytes finding.message) (word_of finding.meant) is its h.message;
 }
+
+finding-alone : (language : Language) (limits : Limits) (text : List ℕ) (read : ReadUpTo) (error : Error) (finding : Finding) → read.from ≡ top → read.unclosed ≡ None → IsItsToken language limits text top error read.token → IsFinding (IsKnown language limits text read) language limits text read.from read.unclosed error finding → IsFinding (IsRefusedFrom language limits text top) language limits text top None error finding
+finding-alone language limits text read error finding is closed its h = subst (λ (unclosed : Option Pos). IsFinding (IsRefusedFrom language limits text top) language limits text top unclosed error finding) closed (is-finding language limits text read error finding is its h)
+
+pub finding-known : {E : Type 0} (language : Language) (limits : Limits) (text : List ℕ) (read : ReadUpTo) (error : Error) (result : Result Finding E) → read.from ≡ top → read.unclosed ≡ None → IsItsToken language limits text top error read.token → IfOk result (IsFinding (IsKnown language limits text read) language limits text read.from read.unclosed error) → IfOk result (IsFinding (IsRefusedFrom language limits text top) language limits text top None error)
+finding-known language limits text read error (Err refused) is closed its h = tt
+finding-known language limits text read error (Ok finding) is closed its h = finding-alone language limits text read error finding is closed its h
+
+-- and so is the one that a report shows
+pub report-known : {E R : Type 0} (bytes : R → List ℕ) (style : Style) (file : List ℕ) (language : Language) (limits : Limits) (text : List ℕ) (read : ReadUpTo) (error : Error) (result : Result R E) → read.from ≡ top → read.unclosed ≡ None → IsItsToken language limits text top error read.token
+    → IfOk result (λ r. IsReportWith style file (IsKnown language limits text read) language limits text read.from read.unclosed error (bytes r)) → IfOk result (λ r. IsReport style file (IsRefusedFrom language limits text top) language limits text top error (bytes r))
+report-known bytes style file language limits text read error (Err refused) is closed its h = tt
+report-known bytes style file language limits text read error (Ok r) is closed its h = record { finding = h.finding; is = finding-alone language limits text read error h.finding is closed its h.is; shows = h.shows }
 
 -- the finding of a syntax error, whatever its message
 pub finding-syntax : {E : Type 0} (is_refused : Token → Type 0) (language : Language) (limits : Limits) (text : List ℕ) (from : ReadFrom) (unclosed : Option Pos) (error : Error) (start : Pos) (message : String Global) (stop : Option Pos) (result : Result Finding E) → error ≡ errors.Syntax message start stop → IfOk result (λ finding. (m : String Global) (s : Option Pos) → IsFinding is_refused language limits text from unclosed (errors.Syntax m start s) finding) → IfOk result (IsFinding is_refused language limits text from unclosed error)

@@ -1,23 +1,25 @@
--- How a part of a report is put together, and where the places in it stand.
-use Rattle.std.proofs.Common.{◌≡◌, ℕ, List, [], ◌∷◌, ◌++◌, Option, Some, None, Result, Ok, Err, sym, ap, subst, ◌∙◌, append_assoc, append-nil}
-use Rattle.std.specs.Borrow.{Bor}
-use Rattle.std.specs.Prelude.{IfOk, IsSomeAnd, codes, unwrap_or}
+-- How a report is put together.
+use Rattle.std.proofs.Common.{◌≡◌, ℕ, List, [], ◌∷◌, ◌++◌, Option, Some, None, Result, Ok, Err, refl, sym, ap, subst, ◌∙◌, append_assoc, append-nil}
+use Rattle.std.specs.Prelude.{IfOk, IsSomeAnd}
 use Rattle.std.specs.Fmt.{decimal}
 use Rattle.std.specs.Str.{chars, IsUtf8}
 use Rattle.std.proofs.lemmas.Str.{chars-append}
 use Rattle.graphql_tokens.specs.declared.pos.Pos.{Pos}
-use Rattle.graphql_reading.specs.grammar.Limits.{Limits}
-use Rattle.graphql_grammar.specs.declared.error.Error.{Error}
-use Rattle.graphql_grammar.specs.declared.error.Error.TheVariants as errors
-use Rattle.graphql_report.specs.declared.definitions.ErrorOffsets.{ErrorOffsets}
-use Rattle.graphql_report.specs.reports.Offsets.{AreErrorOffsets, IsOffsetOf, second_remark}
-use Rattle.graphql_report.specs.declared.fronts.Language.{Language}
-use Rattle.graphql_report.specs.declared.rests.ReadFrom.{ReadFrom}
-use Rattle.graphql_report.specs.declared.style.Style.{Style}
-use Rattle.graphql_report.specs.declared.style.Part.TheVariants.{Place, Error as Word}
 use Rattle.graphql_tokens.specs.tokens.Place.{place_after}
-use Rattle.graphql_tokens.specs.tokens.Token.{Token}
-use Rattle.graphql_report.specs.reports.Reports.{AreDetails, TellsSyntax, styled, named, place_text, Tells, TellsLimit, IsLimitAt, IsLimitRemark, IsPlaceIn, IsToldAt}
+use Rattle.graphql_grammar.specs.declared.error.Error.{Error}
+use Rattle.graphql_report.specs.declared.definitions.ErrorOffsets.{ErrorOffsets}
+use Rattle.graphql_report.specs.declared.definitions.SecondPlace.{SecondPlace}
+use Rattle.graphql_report.specs.declared.style.Style.{Style}
+use Rattle.graphql_report.specs.declared.style.Part.TheVariants.{Place}
+use Rattle.graphql_report.specs.inner.Told.{AddsMessage, AddsPart}
+use Rattle.graphql_report.specs.reports.Findings.{IsPlaceIn}
+use Rattle.graphql_report.specs.reports.Offsets.{AreErrorOffsets, AreOffsetsOf, IsOffsetOf, definition_places, second_remark}
+use Rattle.graphql_report.specs.reports.Reports.{Shows, TellsLine, TellsSecond, styled, named, place_text}
+
+pub place-in : (text front rest : List ℕ) (place : Pos) → IsUtf8 front → text ≡ front ++ rest → place ≡ place_after (chars front) → IsPlaceIn text place
+place-in text front rest place utf8 e is = (chars front, chars rest, ap chars e ∙ chars-append front rest utf8, is)
+
+-- ---- one place
 
 pub place-shown : (file : List ℕ) (place : Pos) (shown front : List ℕ) → shown ≡ front ++ (decimal place.line ++ (58 ∷ []) ++ decimal place.column ++ (58 ∷ [])) → front ≡ named file (58 ∷ []) → shown ≡ place_text file place
 place-shown file place shown front e named_front =
@@ -27,45 +29,56 @@ place-shown file place shown front e named_front =
     ∙ ap (λ (l : List ℕ). l ++ (58 ∷ [])) (append_assoc (named file (58 ∷ [])) (decimal place.line ++ (58 ∷ [])) (decimal place.column))
     ∙ append_assoc (named file (58 ∷ [])) (decimal place.line ++ (58 ∷ []) ++ decimal place.column) (58 ∷ []))
 
--- the remark on the second place, with which the line ends
-pub remark-told : (style : Style) (file : List ℕ) (place : Pos) (remark words part : List ℕ) → remark ≡ words → Tells style file place ((remark ++ []) ++ 10 ∷ []) part → Tells style file place (words ++ 10 ∷ []) part
-remark-told style file place remark words part is tells = subst (λ (l : List ℕ). Tells style file place (l ++ 10 ∷ []) part) (append-nil remark ∙ is) tells
+-- the place, a blank, the message, the end of its line, and the line of the place
+pub part-told : (style : Style) (file : List ℕ) (place : Pos) (message shown excerpt old begun blank said line new : List ℕ) → shown ≡ place_text file place → begun ≡ old ++ styled style Place shown → blank ≡ begun ++ 32 ∷ [] → AddsMessage style message blank said → line ≡ said ++ 10 ∷ [] → new ≡ line ++ excerpt → AddsPart style file place message old new
+part-told style file place message shown excerpt old begun blank said line new at e f m g h =
+    let front : List ℕ = styled style Place (place_text file place) in
+    let words : List ℕ = m.0 ++ 10 ∷ [] in (
+      ((front ++ 32 ∷ []) ++ words) ++ excerpt,
+      (m.0, m.1, (excerpt, refl)),
+      h ∙ ap (λ (l : List ℕ). l ++ excerpt) (
+          g ∙ ap (λ (l : List ℕ). l ++ 10 ∷ []) (m.2 ∙ ap (λ (l : List ℕ). l ++ m.0) (f ∙ ap (λ (l : List ℕ). l ++ 32 ∷ []) (e ∙ ap (λ (l : List ℕ). old ++ styled style Place l) at)))
+          ∙ append_assoc ((old ++ front) ++ 32 ∷ []) m.0 (10 ∷ [])
+          ∙ ap (λ (l : List ℕ). l ++ words) (append_assoc old front (32 ∷ []))
+          ∙ append_assoc old (front ++ 32 ∷ []) words)
+          ∙ append_assoc old ((front ++ 32 ∷ []) ++ words) excerpt,
+    )
 
-some-remark : (P : ℕ × Bor (List ℕ) → Type 0) (second : Option (ℕ × Bor (List ℕ))) (other : ℕ × Bor (List ℕ)) (remark : List ℕ) → IsSomeAnd second (λ s. P s × (s.1.now ≡ remark)) → (unwrap_or second other).1.now ≡ remark
-some-remark P (Some s) other remark is = is.1
-some-remark P None other remark is = absurd is
+-- ---- both places
 
-no-remark : (second : Option (ℕ × Bor (List ℕ))) (other : ℕ × Bor (List ℕ)) → second ≡ None → other.1.now ≡ [] → (unwrap_or second other).1.now ≡ []
-no-remark second other none empty = subst (λ (s : Option (ℕ × Bor (List ℕ))). (unwrap_or s other).1.now ≡ []) (sym none) empty
+some-second : (P : SecondPlace → Type 0) (second : Option SecondPlace) (s : SecondPlace) → IsSomeAnd second P → second ≡ Some s → P s
+some-second P second s is e = subst (λ (o : Option SecondPlace). IsSomeAnd o P) e is
 
--- what is said of the second place is the error's remark
-pub its-remark : (text : List ℕ) (error : Error) (offsets : ErrorOffsets) (other : ℕ × Bor (List ℕ)) → AreErrorOffsets text error offsets → other.1.now ≡ [] → (unwrap_or offsets.second other).1.now ≡ second_remark error
-its-remark text (errors.MultipleRoots root schema pos) offsets other are empty = some-remark (λ s. IsOffsetOf text schema s.0) offsets.second other _ are.1
-its-remark text (errors.MultipleOperations anonymous operation) offsets other are empty = some-remark (λ s. IsOffsetOf text operation s.0) offsets.second other _ are.1
-its-remark text (errors.OperationDuplicated name first second) offsets other are empty = some-remark (λ s. IsOffsetOf text first s.0) offsets.second other _ are.1
-its-remark text (errors.FragmentDuplicated name first second) offsets other are empty = some-remark (λ s. IsOffsetOf text first s.0) offsets.second other _ are.1
-its-remark text error offsets other are empty = no-remark offsets.second other are.1 empty
+none-second : (P : SecondPlace → Type 0) (second : Option SecondPlace) → IsSomeAnd second P → second ≡ None → ⊥
+none-second P second is e = subst (λ (o : Option SecondPlace). IsSomeAnd o P) e is
 
-pub place-in : (text front rest : List ℕ) (place : Pos) → IsUtf8 front → text ≡ front ++ rest → place ≡ place_after (chars front) → IsPlaceIn text place
-place-in text front rest place utf8 e is = (chars front, chars rest, ap chars e ∙ chars-append front rest utf8, is)
+-- it isn't there, and it is
+clash : {A : Type 0} (second : Option SecondPlace) (s : SecondPlace) → second ≡ None → second ≡ Some s → A
+clash second s none some = let e = sym none ∙ some in absurd cc
 
--- what is told at a limit
-pub limit-told : {A E : Type 0} (bytes : A → List ℕ) (result : Result A E) (style : Style) (file text : List ℕ) (is_refused : Token → Type 0) (limits : Limits) (unclosed : Option Pos) (place : Pos) (more : List ℕ) → IsLimitAt is_refused text place → ((token : Token) → is_refused token → IsLimitRemark limits unclosed more) → IfOk result (λ report. Tells style file place ((codes "recursion limit exceeded" ++ more) ++ 10 ∷ []) (bytes report)) → IfOk result (λ report. TellsLimit style file is_refused limits text unclosed (bytes report))
-limit-told bytes (Ok report) style file text is_refused limits unclosed place more is remark told = (place, more, is, remark, told)
-limit-told bytes (Err refused) style file text is_refused limits unclosed place more is remark told = tt
+its-second : (style : Style) (file text : List ℕ) (places : List Pos) (remark : List ℕ) (offsets : ErrorOffsets) (s : SecondPlace) (part : List ℕ) → AreOffsetsOf text places remark offsets → offsets.second ≡ Some s → TellsLine style file s.place s.remark.now part → TellsSecond style file remark places part
+its-second style file text [] remark offsets s part are e tells = clash offsets.second s are.1 e
+its-second style file text (first ∷ []) remark offsets s part are e tells = clash offsets.second s are.1 e
+its-second style file text (first ∷ place ∷ more) remark offsets s part are e tells =
+    let is = some-second (λ o. IsOffsetOf text place o.offset × (o.place ≡ place) × (o.remark.now ≡ remark)) offsets.second s are.1 e in
+    subst (λ (q : Pos). TellsLine style file q remark part) is.1 (subst (λ (r : List ℕ). TellsLine style file s.place r part) is.2 tells)
 
--- a message that goes on
-pub go-on : (front message more rest : List ℕ) → (front ++ message) ++ (more ++ rest) ≡ (front ++ (message ++ more)) ++ rest
-go-on front message more rest = sym (append_assoc (front ++ message) more rest) ∙ ap (λ (l : List ℕ). l ++ rest) (append_assoc front message more)
+no-second : (style : Style) (file text : List ℕ) (places : List Pos) (remark : List ℕ) (offsets : ErrorOffsets) → AreOffsetsOf text places remark offsets → offsets.second ≡ None → TellsSecond style file remark places []
+no-second style file text [] remark offsets are e = refl
+no-second style file text (first ∷ []) remark offsets are e = refl
+no-second style file text (first ∷ place ∷ more) remark offsets are e = absurd (none-second (λ o. IsOffsetOf text place o.offset × (o.place ≡ place) × (o.remark.now ≡ remark)) offsets.second are.1 e)
 
--- and its line ends
-pub go-on-line : (front message more shown rest : List ℕ) → rest ≡ more ++ 10 ∷ shown → (front ++ message) ++ rest ≡ (front ++ ((message ++ more) ++ 10 ∷ [])) ++ shown
-go-on-line front message more shown rest e =
-    ap (λ (l : List ℕ). (front ++ message) ++ l) (e ∙ sym (append_assoc more (10 ∷ []) shown)) ∙ go-on front message (more ++ 10 ∷ []) shown
-    ∙ ap (λ (l : List ℕ). (front ++ l) ++ shown) (sym (append_assoc message more (10 ∷ [])))
+-- a report of two places
+pub shows-both : (style : Style) (file text : List ℕ) (error : Error) (offsets : ErrorOffsets) (place : Pos) (s : SecondPlace) (message empty one report : List ℕ) → AreErrorOffsets text error offsets → offsets.second ≡ Some s → empty ≡ [] → AddsPart style file place message empty one → AddsPart style file s.place s.remark.now one report → Shows style file error (Some place) message report
+shows-both style file text error offsets place s message empty one report are e none first second =
+    (first.0, second.0, first.1, its-second style file text (definition_places error) (second_remark error) offsets s second.0 are e second.1, second.2 ∙ ap (λ (l : List ℕ). l ++ second.0) (first.2 ∙ ap (λ (l : List ℕ). l ++ first.0) none))
 
--- what is told of a refused token
-pub syntax-told : {A E : Type 0} (bytes : A → List ℕ) (result : Result A E) (style : Style) (file : List ℕ) (is_refused : Token → Type 0) (language : Language) (limits : Limits) (text : List ℕ) (from : ReadFrom) (unclosed : Option Pos) (start place : Pos) (details message : List ℕ) (asked : Option (List ℕ)) → IsToldAt is_refused text start place → AreDetails is_refused language limits text from unclosed details asked
-    → message ≡ (codes "syntax " ++ styled style Word (codes "error") ++ codes ": ") ++ details → IfOk result (λ report. Tells style file place (message ++ 10 ∷ []) (bytes report)) → IfOk result (λ report. TellsSyntax style file is_refused language limits text from unclosed start (bytes report))
-syntax-told bytes (Ok report) style file is_refused language limits text from unclosed start place details message asked at are is (rest, e) = (place, details, asked, at, are, (rest, e ∙ ap (λ (l : List ℕ). styled style Place (place_text file place) ++ codes " " ++ (l ++ 10 ∷ []) ++ rest) is))
-syntax-told bytes (Err refused) style file is_refused language limits text from unclosed start place details message asked at are is told = tt
+-- and of one
+pub shows-one : (style : Style) (file text : List ℕ) (error : Error) (offsets : ErrorOffsets) (place : Pos) (message empty one : List ℕ) → AreErrorOffsets text error offsets → offsets.second ≡ None → empty ≡ [] → AddsPart style file place message empty one → Shows style file error (Some place) message one
+shows-one style file text error offsets place message empty one are e none first =
+    (first.0, [], first.1, no-second style file text (definition_places error) (second_remark error) offsets are e, first.2 ∙ ap (λ (l : List ℕ). l ++ first.0) none ∙ sym (append-nil first.0))
+
+-- what holds of a result
+pub if-ok : {A E : Type 0} (P Q : A → Type 0) (result : Result A E) → IfOk result P → ((a : A) → P a → Q a) → IfOk result Q
+if-ok P Q (Ok a) h then = then a h
+if-ok P Q (Err e) h then = tt

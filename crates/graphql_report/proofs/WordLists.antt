@@ -1,8 +1,8 @@
 -- Lists of what is expected, as they are told.
-use Rattle.std.proofs.Common.{◌≡◌, ◌<◌, ◌≤◌, ◌+◌, ℕ, Bool, true, false, ◌-◌, ◌^◌, ◌⊎◌, inl, inr, length, length-drop, drop, arith, ◌||◌, if◌then◌else◌, List, [], ◌∷◌, ◌++◌, map, flat_map, take, refl, sym, ap, ◌∙◌, append_assoc, append-nil, length-append}
+use Rattle.std.proofs.Common.{◌≡◌, ◌<◌, ◌≤◌, ◌+◌, ◌==◌, ℕ, Bool, true, false, ◌-◌, ◌^◌, ◌⊎◌, inl, inr, length, length-drop, drop, get_or, arith, ◌||◌, if◌then◌else◌, List, [], ◌∷◌, ◌++◌, map, take, refl, sym, ap, ◌∙◌, append_assoc, append-nil, length-append}
 use Rattle.std.proofs.lemmas.Bool.{cases_lt}
 use Rattle.std.proofs.lemmas.Bool.Decides.{nat_tests}
-use Rattle.std.proofs.lemmas.List.{take-append-drop, drop_all, map-append}
+use Rattle.std.proofs.lemmas.List.{take-append-drop, drop_all, drop_more, length-map, map-append}
 use Rattle.std.proofs.lemmas.Str.{encodes-append, encodes-chars, length-le-encodes}
 use Rattle.std.specs.Prelude.{codes, min, nat_lt}
 use Rattle.std.specs.Str.{chars, encode_utf8_all, IsUtf8}
@@ -73,25 +73,42 @@ few-bytes text front passed utf8 is e past =
 
 -- ---- lists
 
--- those in the middle, and the last
-pub or-last : (told : List ℕ → List ℕ) (middle : List (List ℕ)) (last : List ℕ) → or_others told (middle ++ last ∷ []) ≡ flat_map (λ name. codes ", " ++ told name) middle ++ (codes " or " ++ told last)
-or-last told [] last = refl
-or-last told (name ∷ []) last = ap (λ (l : List ℕ). l ++ (codes " or " ++ told last)) (sym (append-nil (codes ", " ++ told name)))
-or-last told (name ∷ second ∷ middle) last = ap (λ (l : List ℕ). codes ", " ++ told name ++ l) (or-last told (second ∷ middle) last) ∙ sym (append_assoc (codes ", " ++ told name) (flat_map (λ n. codes ", " ++ told n) (second ∷ middle)) (codes " or " ++ told last))
+-- what is told of the rest of a list, which is the whole of it or isn't
+abbrev pub told_from : (List ℕ → List ℕ) → Bool → List (List ℕ) → List ℕ
+told_from told true names = expected_of told names
+told_from told false names = or_others told names
 
--- two or more are told: first, some in the middle, and last
-pub expected-told : (told : List ℕ → List ℕ) (old begun one some or all first last : List ℕ) (middle : List (List ℕ)) → begun ≡ old ++ codes ", expected " → one ≡ begun ++ told first → some ≡ one ++ flat_map (λ name. codes ", " ++ told name) middle → or ≡ some ++ codes " or " → all ≡ or ++ told last
-    → all ≡ old ++ expected_of told (first ∷ (middle ++ last ∷ []))
-expected-told told old begun one some or all first last middle e f g h k =
-    let others : List ℕ = flat_map (λ name. codes ", " ++ told name) middle in
-    let end : List ℕ = codes " or " ++ told last in
-    k ∙ ap (λ (l : List ℕ). l ++ told last) (h ∙ ap (λ (l : List ℕ). l ++ codes " or ") (g ∙ ap (λ (l : List ℕ). l ++ others) (f ∙ ap (λ (l : List ℕ). l ++ told first) e)))
-    ∙ append_assoc (((old ++ codes ", expected ") ++ told first) ++ others) (codes " or ") (told last)
-    ∙ append_assoc ((old ++ codes ", expected ") ++ told first) others end
-    ∙ ap (λ (l : List ℕ). l ++ (others ++ end)) (append_assoc old (codes ", expected ") (told first))
-    ∙ append_assoc old (codes ", expected " ++ told first) (others ++ end)
-    ∙ ap (λ (l : List ℕ). old ++ ((codes ", expected " ++ told first) ++ l)) (sym (or-last told middle last))
+-- what stands before the first of these
+abbrev words_before : Bool → Bool → List ℕ
+words_before first last = if first then codes ", expected " else (if last then codes " or " else codes ", ")
 
--- the names of a list that is in three parts
-pub texts-parts : (names others middle : List (Bor (List ℕ))) (first last : Bor (List ℕ)) → names ≡ first ∷ others → others ≡ middle ++ last ∷ [] → texts names ≡ first.now ∷ (texts middle ++ last.now ∷ [])
-texts-parts names others middle first last e f = ap texts (e ∙ ap (λ (l : List (Bor (List ℕ))). first ∷ l) f) ∙ ap (λ (l : List (List ℕ)). first.now ∷ l) (map-append (λ (name : Bor (List ℕ)). name.now) middle (last ∷ []))
+one-told : (told : List ℕ → List ℕ) (first last : Bool) (name : List ℕ) (rest : List (List ℕ)) → (last ≡ true → length rest ≡ 0) → (last ≡ false → 0 < length rest) → told_from told first (name ∷ rest) ≡ words_before first last ++ (told name ++ or_others told rest)
+one-told told true last name rest none some = refl
+one-told told false true name [] none some = ap (λ (l : List ℕ). codes " or " ++ l) (sym (append-nil (told name)))
+one-told told false true name (second ∷ more) none some = absurd (omega (arith, none refl))
+one-told told false false name [] none some = absurd (omega (arith, some refl))
+one-told told false false name (second ∷ more) none some = refl
+
+pub next-told : (told : List ℕ → List ℕ) (names : List (Bor (List ℕ))) (k : ℕ) (d : Bor (List ℕ)) (out before one two all : List ℕ) → k < length names → out ++ told_from told (k == 0) (texts (drop k names)) ≡ all → before ≡ words_before (k == 0) (k + 1 == length names) → one ≡ out ++ before → two ≡ one ++ told (get_or names k d).now
+    → two ++ told_from told (k + 1 == 0) (texts (drop (k + 1) names)) ≡ all
+next-told told names k d out before one two all h is words e f =
+    let name : List ℕ = (get_or names k d).now in
+    let rest : List (List ℕ) = texts (drop (k + 1) names) in
+    let size : length rest ≡ length names - (k + 1) = length-map (drop (k + 1) names) (λ (n : Bor (List ℕ)). n.now) ∙ length-drop (k + 1) names in
+    let never : (k + 1 == 0) ≡ false = grind (arith, nat_tests) in
+    let others : List ℕ = or_others told rest in
+    ap (λ (b : Bool). two ++ told_from told b rest) never
+    ∙ ap (λ (l : List ℕ). l ++ others) (f ∙ ap (λ (l : List ℕ). l ++ told name) (e ∙ ap (λ (l : List ℕ). out ++ l) words))
+    ∙ append_assoc (out ++ words_before (k == 0) (k + 1 == length names)) (told name) others
+    ∙ append_assoc out (words_before (k == 0) (k + 1 == length names)) (told name ++ others)
+    ∙ ap (λ (l : List ℕ). out ++ l) (sym (one-told told (k == 0) (k + 1 == length names) name rest (λ last. grind (arith, nat_tests, last, size)) (λ more. grind (arith, nat_tests, more, size, h))))
+    ∙ ap (λ (l : List (Bor (List ℕ))). out ++ told_from told (k == 0) (texts l)) (sym (drop_more names k d h))
+    ∙ is
+
+none-told : (told : List ℕ → List ℕ) (first : Bool) → told_from told first [] ≡ []
+none-told told true = refl
+none-told told false = refl
+
+pub all-told : (told : List ℕ → List ℕ) (names : List (Bor (List ℕ))) (k : ℕ) (out all : List ℕ) → length names ≤ k → out ++ told_from told (k == 0) (texts (drop k names)) ≡ all → out ≡ all
+all-told told names k out all h is =
+    sym (append-nil out) ∙ ap (λ (l : List ℕ). out ++ l) (sym (none-told told (k == 0))) ∙ ap (λ (l : List (Bor (List ℕ))). out ++ told_from told (k == 0) (texts l)) (sym (drop_all k names h)) ∙ is

@@ -4,4 +4,3 @@ pub mod Told
 pub mod Strings
 pub mod Carets
 pub mod Left
-pub mod OfText

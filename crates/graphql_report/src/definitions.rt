@@ -1,13 +1,9 @@
 //! The tokens that an error about definitions is about. Places need not tell them apart: after a lone carriage return a
 //! second definition may have the place of the first.
-ghost use Rattle.std.specs.Prelude.{◌≡◌, ◌↔◌, ◌⊎◌, ℕ, true, List, [], ◌∷◌, Some, codes, IfOk};
-ghost use Rattle.std.specs.List.{All};
-ghost use Rattle.graphql_report.specs.inner.OfText.{IsOfText, MaybeOfText, AreOfText, IsRootOf};
+ghost use Rattle.std.specs.Prelude.{◌≡◌, ◌↔◌, true, [], ◌∷◌, IfOk};
 ghost use Rattle.graphql_report.specs.reports.Offsets.{AreErrorOffsets, AreOffsetsOf, IsOffsetOf};
 
-use crate::refused::after;
 use graphql_parser::lexer::{Token, Tokens};
-use graphql_parser::types::OperationType;
 use graphql_parser::{Error, Pos};
 use std::alloc::{AllocError, Global};
 
@@ -16,8 +12,18 @@ use std::alloc::{AllocError, Global};
 pub struct ErrorOffsets {
     /// The token at the first place of the report; the length of the text if the error names none.
     pub first: usize,
-    /// The token at the second place, and what the report says of it; None of an error that names one place at most.
-    pub second: Option<(usize, &'static str)>,
+    /// The second place; None of an error that names one place at most.
+    pub second: Option<SecondPlace>,
+}
+
+/// The second place of an error about definitions. (This project's own type.)
+#[derive(Clone, Copy)]
+pub struct SecondPlace {
+    pub place: Pos,
+    /// The token there, as a byte offset.
+    pub offset: usize,
+    /// What the report says of it.
+    pub remark: &'static str,
 }
 
 /// Where the tokens stand in `text` that `error` is about, an error about definitions that a parser returned for it: for
@@ -31,34 +37,45 @@ pub fn error_offsets(alloc: Global, text: &str, error: &Error) -> Result<ErrorOf
             operation: name,
             first,
             second,
-        } => offsets_of_namesakes(alloc, text, false, name.as_str(), *second, *first),
+        } => {
+            let definitions = definitions_of(alloc, text)?;
+            let starts = namesakes(definitions.as_slice(), false, name.as_str());
+            Ok(offsets_at(text, starts, *second, *first, "it is first defined here"))
+        }
         Error::FragmentDuplicated {
             fragment: name,
             first,
             second,
-        } => offsets_of_namesakes(alloc, text, true, name.as_str(), *second, *first),
+        } => {
+            let definitions = definitions_of(alloc, text)?;
+            let starts = namesakes(definitions.as_slice(), true, name.as_str());
+            Ok(offsets_at(text, starts, *second, *first, "it is first defined here"))
+        }
         Error::MultipleOperations {
             anonymous,
             operation,
         } => {
-            let firsts = definitions_of(alloc, text)?;
-            let pair = anonymous_and_other(text, firsts.as_slice());
+            let definitions = definitions_of(alloc, text)?;
+            let starts = anonymous_and_other(definitions.as_slice());
             Ok(offsets_at(
                 text,
-                pair,
+                starts,
                 *anonymous,
                 *operation,
                 "another operation is here",
             ))
         }
         Error::MultipleRoots { root, schema, pos } => {
-            offsets_of_root(alloc, text, *root, *pos, *schema)
+            let word = format!(in alloc; "{root}")?;
+            let roots = roots_of(alloc, text)?;
+            let starts = repeated_root(roots.as_slice(), word.as_str(), *schema);
+            Ok(offsets_at(text, starts, *pos, *schema, "the schema begins here"))
         }
         Error::MissingQueryRoot { pos } => {
             let roots = roots_of(alloc, text)?;
-            let schema = schema_without_query(roots.as_slice(), *pos);
+            let start = schema_without_query(roots.as_slice(), *pos);
             Ok(ErrorOffsets {
-                first: offset_at(text, schema, *pos),
+                first: offset_of(text, start, *pos),
                 second: None,
             })
         }
@@ -72,79 +89,44 @@ pub fn error_offsets(alloc: Global, text: &str, error: &Error) -> Result<ErrorOf
     }
 }
 
-// The second and the first of the operations or fragments of this name, which stand at these places.
-fn offsets_of_namesakes(
-    alloc: Global,
-    text: &str,
-    are_fragments: bool,
-    name: &str,
-    second: Pos,
-    first: Pos,
-) -> Result<ErrorOffsets, AllocError>
-    ensures { IfOk result (AreOffsetsOf text.now (second ∷ first ∷ []) (codes "it is first defined here")) }
-{
-    let firsts = definitions_of(alloc, text)?;
-    let pair = namesakes(text, firsts.as_slice(), are_fragments, name);
-    Ok(offsets_at(text, pair, second, first, "it is first defined here"))
-}
-
-// The root that is named a second time, and its schema, which stand at these places.
-fn offsets_of_root(
-    alloc: Global,
-    text: &str,
-    root: OperationType,
-    place: Pos,
-    schema: Pos,
-) -> Result<ErrorOffsets, AllocError>
-    ensures { IfOk result (AreOffsetsOf text.now (place ∷ schema ∷ []) (codes "the schema begins here")) }
-{
-    let roots = roots_of(alloc, text)?;
-    let word = format!(in alloc; "{root}")?;
-    let pair = repeated_root(roots.as_slice(), word.as_str(), schema);
-    Ok(offsets_at(text, pair, place, schema, "the schema begins here"))
-}
-
-// Two tokens, the more important first, if they were found.
-type Pair<'a> = (Option<Token<'a>>, Option<Token<'a>>);
+// Where two tokens begin, the more important first; 0 of one that wasn't found.
+type Starts = (usize, usize);
 
 // Where both begin, if they stand at these places; and what is said of the second.
 fn offsets_at(
     text: &str,
-    pair: Pair<'_>,
+    starts: Starts,
     first: Pos,
     second: Pos,
     remark: &'static str,
 ) -> ErrorOffsets
-    requires { AreOfText text.now pair }
     ensures { AreOffsetsOf text.now (first ∷ second ∷ []) remark.now result }
 {
     ErrorOffsets {
-        first: offset_at(text, pair.0, first),
-        second: Some((offset_at(text, pair.1, second), remark)),
+        first: offset_of(text, starts.0, first),
+        second: Some(SecondPlace {
+            place: second,
+            offset: offset_of(text, starts.1, second),
+            remark,
+        }),
     }
 }
 
-// Where this token begins, if it stands at this place; or else the first that does.
-fn offset_at(text: &str, found: Option<Token<'_>>, place: Pos) -> usize
-    requires { MaybeOfText text.now found }
+// The byte offset of a token that stands at this place: of the first that doesn't begin before `start`, or else of the
+// last; the length of the text if none stands there.
+fn offset_of(text: &str, start: usize, place: Pos) -> usize
     ensures { IsOffsetOf text.now place result }
 {
-    match found {
-        Some(token) if stands_at(&token, place) => token.start,
-        _ => offset_of(text, place),
-    }
-}
-
-// The byte offset of the first token that stands at this place; the length of the text if none does.
-fn offset_of(text: &str, place: Pos) -> usize
-    ensures { IsOffsetOf text.now place result }
-{
+    let mut offset = text.len();
     for token in Tokens::new(text) {
         if stands_at(&token, place) {
-            return token.start;
+            if token.start >= start {
+                return token.start;
+            }
+            offset = token.start;
         }
     }
-    text.len()
+    offset
 }
 
 fn stands_at(token: &Token<'_>, place: Pos) -> bool
@@ -164,80 +146,79 @@ fn depth_after(depth: usize, token: &Token<'_>) -> usize {
 
 // ---- requests
 
-// The first token of each definition of a request that has a tree: one begins with the text, and one after each brace
-// that closes another.
-fn definitions_of<'a>(alloc: Global, text: &'a str) -> Result<Vec<Token<'a>>, AllocError>
-    ensures { IfOk result (λ firsts. All (IsOfText text.entry.now) firsts.items) }
-{
-    let mut firsts: Vec<Token<'a>> = Vec::new(alloc);
+// The first two tokens of a definition of a request.
+#[derive(Clone, Copy)]
+struct Definition<'a> {
+    first: Token<'a>,
+    second: Token<'a>,
+}
+
+impl<'a> Definition<'a> {
+    fn is_fragment(&self) -> bool {
+        self.first.text == "fragment"
+    }
+
+    // The word after the keyword; empty if there is none.
+    fn name(&self) -> &'a str {
+        if self.first.kind.is_name() && self.second.kind.is_name() {
+            self.second.text
+        } else {
+            ""
+        }
+    }
+}
+
+// The definitions of a request that has a tree: one begins with the text, and one after each brace that closes another.
+fn definitions_of<'a>(alloc: Global, text: &'a str) -> Result<Vec<Definition<'a>>, AllocError> {
+    let mut definitions: Vec<Definition<'a>> = Vec::new(alloc);
     let mut depth = 0usize;
     let mut is_first = true;
+    let mut begun: Option<Token<'a>> = None;
     for token in Tokens::new(text) {
-        if token.kind.is_end() {
-            break;
+        if let Some(first) = begun {
+            definitions.push(Definition {
+                first,
+                second: token,
+            })?;
         }
-        if is_first {
-            firsts.push(token)?;
-        }
+        begun = if is_first { Some(token) } else { None };
         depth = depth_after(depth, &token);
-        is_first = is_closed(depth, &token);
+        is_first = depth == 0 && token.text == "}";
     }
-    Ok(firsts)
-}
-
-// Whether a definition ends with this token, after which so many braces are open.
-fn is_closed(depth: usize, token: &Token<'_>) -> bool {
-    depth == 0 && token.text == "}"
-}
-
-// Whether the definition that begins with this token is a fragment.
-fn is_fragment(first: &Token<'_>) -> bool {
-    first.text == "fragment"
-}
-
-// The name of the definition that begins with this token: the word after its keyword; empty if there is none.
-fn name_of<'a>(text: &'a str, first: &Token<'_>) -> &'a str {
-    match Tokens::new(after(text, first.start)).nth(1) {
-        Some(second) if first.kind.is_name() && second.kind.is_name() => second.text,
-        _ => "",
-    }
+    Ok(definitions)
 }
 
 // The second operation of this name and the first, or the second fragment and the first.
-fn namesakes<'a>(text: &str, firsts: &[Token<'a>], are_fragments: bool, name: &str) -> Pair<'a>
-    requires { All (IsOfText text.now) firsts.now }
-    ensures { AreOfText text.now result }
-{
+fn namesakes(definitions: &[Definition<'_>], are_fragments: bool, name: &str) -> Starts {
     let mut earlier = None;
-    for first in firsts {
-        if is_fragment(first) == are_fragments && name_of(text, first) == name {
-            if earlier.is_some() {
-                return (Some(*first), earlier);
+    for definition in definitions {
+        if definition.is_fragment() == are_fragments && definition.name() == name {
+            let start = definition.first.start;
+            if let Some(earlier) = earlier {
+                return (start, earlier);
             }
-            earlier = Some(*first);
+            earlier = Some(start);
         }
     }
-    (None, earlier)
+    (0, earlier.unwrap_or(0))
 }
 
 // The first operation, and the next one if either of them has no name: first the one without a name, then the other.
-fn anonymous_and_other<'a>(text: &str, firsts: &[Token<'a>]) -> Pair<'a>
-    requires { All (IsOfText text.now) firsts.now }
-    ensures { AreOfText text.now result }
-{
-    let mut earliest: Option<Token<'a>> = None;
-    for first in firsts {
-        if is_fragment(first) {
+fn anonymous_and_other(definitions: &[Definition<'_>]) -> Starts {
+    let mut earliest: Option<Definition<'_>> = None;
+    for definition in definitions {
+        if definition.is_fragment() {
             continue;
         }
+        let start = definition.first.start;
         match earliest {
-            None => earliest = Some(*first),
-            Some(other) if name_of(text, first).is_empty() => return (Some(*first), Some(other)),
-            Some(other) if name_of(text, &other).is_empty() => return (Some(other), Some(*first)),
+            None => earliest = Some(*definition),
+            Some(other) if definition.name().is_empty() => return (start, other.first.start),
+            Some(other) if other.name().is_empty() => return (other.first.start, start),
             Some(_) => {}
         }
     }
-    (None, None)
+    (0, 0)
 }
 
 // ---- schema files
@@ -265,9 +246,7 @@ const BEFORE_NAMES: [&str; 11] = [
 ];
 
 // The first token of the definition whose keyword this is: `extend`, or a description, or the keyword itself.
-fn first_of<'a>(before: Option<Token<'a>>, keyword: Token<'a>) -> Token<'a>
-    ensures { (result ≡ keyword.entry) ⊎ (before.entry ≡ Some result) }
-{
+fn first_of<'a>(before: Option<Token<'a>>, keyword: Token<'a>) -> Token<'a> {
     match before {
         Some(token) if token.text == "extend" || token.kind.is_string() || token.kind.is_block() =>
             { token }
@@ -276,9 +255,7 @@ fn first_of<'a>(before: Option<Token<'a>>, keyword: Token<'a>) -> Token<'a>
 }
 
 // The roots of a schema file that has a tree.
-fn roots_of<'a>(alloc: Global, text: &'a str) -> Result<Vec<Root<'a>>, AllocError>
-    ensures { IfOk result (λ roots. All (IsRootOf text.entry.now) roots.items) }
-{
+fn roots_of<'a>(alloc: Global, text: &'a str) -> Result<Vec<Root<'a>>, AllocError> {
     let mut roots: Vec<Root<'a>> = Vec::new(alloc);
     let mut schema: Option<Token<'a>> = None;
     let mut before: Option<Token<'a>> = None;
@@ -309,9 +286,11 @@ fn roots_of<'a>(alloc: Global, text: &'a str) -> Result<Vec<Root<'a>>, AllocErro
 }
 
 // The first token of a schema's definition, if this word outside of braces is its keyword.
-fn schema_at<'a>(before: Option<Token<'a>>, word: Token<'a>, text_before: &str) -> Option<Token<'a>>
-    ensures { (text : List ℕ) → MaybeOfText text before.entry → IsOfText text word.entry → MaybeOfText text result }
-{
+fn schema_at<'a>(
+    before: Option<Token<'a>>,
+    word: Token<'a>,
+    text_before: &str,
+) -> Option<Token<'a>> {
     if word.text == "schema" && !BEFORE_NAMES.contains(&text_before) {
         Some(first_of(before, word))
     } else {
@@ -324,43 +303,34 @@ fn is_body_after(is_body: bool, depth: usize, token: &str) -> bool {
     if depth == 0 { token == "{" } else { is_body }
 }
 
-// The first root that its schema, at this place, names a second time, and the first token of the schema.
-fn repeated_root<'a>(roots: &[Root<'a>], word: &str, place: Pos) -> Pair<'a>
-    ensures { (text : List ℕ) → All (IsRootOf text) roots.now → AreOfText text result }
-{
-    let mut earlier: Option<Root<'a>> = None;
+// The first root that its schema, at this place, names a second time, and the schema.
+fn repeated_root(roots: &[Root<'_>], word: &str, place: Pos) -> Starts {
+    let mut earlier: Option<usize> = None;
     for root in roots {
+        let schema = root.schema.start;
         if root.keyword.text == word && root.schema.pos == place {
-            if let Some(earlier) = earlier
-                && earlier.schema.start == root.schema.start
-            {
-                return (Some(root.keyword), Some(root.schema));
+            if earlier == Some(schema) {
+                return (root.keyword.start, schema);
             }
-            earlier = Some(*root);
+            earlier = Some(schema);
         }
     }
-    (None, None)
+    (0, 0)
 }
 
-// The first token of the first schema definition at this place that names no query root.
-fn schema_without_query<'a>(roots: &[Root<'a>], place: Pos) -> Option<Token<'a>>
-    ensures { (text : List ℕ) → All (IsRootOf text) roots.now → MaybeOfText text result }
-{
-    let mut schema: Option<Token<'a>> = None;
+// The first schema definition at this place that names no query root.
+fn schema_without_query(roots: &[Root<'_>], place: Pos) -> usize {
+    let mut schema: Option<usize> = None;
     let mut is_lacking = false;
     for root in roots {
-        let is_same = match schema {
-            Some(schema) => schema.start == root.schema.start,
-            None => false,
-        };
-        if !is_same {
+        if schema != Some(root.schema.start) {
             if is_lacking {
-                return schema;
+                break;
             }
-            schema = Some(root.schema);
+            schema = Some(root.schema.start);
             is_lacking = root.schema.pos == place && root.schema.text != "extend";
         }
         is_lacking = is_lacking && root.keyword.text != "query";
     }
-    if is_lacking { schema } else { None }
+    if is_lacking { schema.unwrap_or(0) } else { 0 }
 }

@@ -84,7 +84,6 @@ pub fn excerpt_of(
     line: usize,
     offset: usize,
 ) -> Result<String, AllocError> {
-    let mut out = String::new(alloc);
     let front = before(text, offset);
     let back = after(text, offset);
     let front = front.rsplit(is_line_end).next().unwrap_or(front);
@@ -93,8 +92,8 @@ pub fn excerpt_of(
     let end = first_part(back, COLUMNS_AFTER);
     let left = after(front, start);
     let right = before(back, end);
-    let number = format!(in alloc; "{line}")?;
-    write!(out, " {number} | ")?;
+    let mut out = format!(in alloc; " {line} | ")?;
+    let width = out.len();
     if start > 0 {
         out.push_str(CUT)?;
     }
@@ -104,10 +103,10 @@ pub fn excerpt_of(
         out.push_str(CUT)?;
     }
     out.push('\n')?;
-    for _ in 0..number.len() {
+    for _ in 2..width {
         out.push(' ')?;
     }
-    out.push_str("  | ")?;
+    out.push_str("| ")?;
     if start > 0 {
         out.push_str("   ")?;
     }

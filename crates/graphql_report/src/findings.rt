@@ -1,19 +1,26 @@
-//! What is wrong with a text, in parts: for those who show it in a way of their own.
-ghost use Rattle.std.specs.Prelude.{◌≡◌, ◌++◌, ℕ, List, [], Option, None, IfOk, MatchOption, String};
-ghost use Rattle.graphql_grammar.specs.declared.error.Error.TheVariants.{Syntax, RecursionLimitExceeded};
-ghost use Rattle.graphql_report.specs.reports.Findings.{IsFinding, status_of as status_text};
-ghost use Rattle.graphql_report.specs.inner.Told.{TellsBreach};
+//! What is wrong with a text, in parts: for a report, and for those who show it in a way of their own.
+ghost use Rattle.std.specs.Prelude.{◌≡◌, ◌++◌, ℕ, List, [], Option, None, true, false, IfOk, OnOk, MatchOption, String, string_bytes};
 ghost use Rattle.std.specs.Str.{IsCharBoundary, chars};
 ghost use Rattle.graphql_tokens.specs.tokens.Place.{place, place_after};
+ghost use Rattle.graphql_tokens.specs.tokens.Seen.{seen};
+ghost use Rattle.graphql_grammar.specs.declared.error.Error.TheVariants.{Syntax, RecursionLimitExceeded};
+ghost use Rattle.graphql_report.specs.inner.Called.{texts};
+ghost use Rattle.graphql_report.specs.inner.Carets.{IsWrongAfter};
+ghost use Rattle.graphql_report.specs.inner.Told.{AddsHintFor, IsWrong, TellsBreach};
+ghost use Rattle.graphql_report.specs.reports.Findings.{IsFinding, IsPlaceIn, status_of as status_text};
+ghost use Rattle.graphql_report.specs.reports.Hints.{word_of};
+ghost use Rattle.graphql_report.specs.reports.Offsets.{first_remark};
 ghost use Rattle.graphql_report.specs.reports.Refused.{IsKnown, IsRefusedFrom};
-ghost use Rattle.graphql_report.specs.reports.Reports.{IsPlaceIn};
 ghost use Rattle.graphql_report.specs.reports.Rests.{AreCounted, BeginsAt, top};
 
+use crate::expected::expected_after;
+use crate::faults::fault_of;
 use crate::fronts::{Language, end_of};
-use crate::refused::{before, reached_limit};
-use crate::report::{TOO_DEEP, details_of, limit_remark, place_told, remark_of};
-use crate::rests::ReadUpTo;
-use graphql_parser::lexer::Token;
+use crate::hints::{expects_value, push_hint, push_unclosed};
+use crate::refused::{Depth, before, reached_limit, split};
+use crate::rests::{ReadUpTo, read_before};
+use crate::words::{push_expected, push_found};
+use graphql_parser::lexer::{Token, TokenKind};
 use graphql_parser::pos::PositionCalculator;
 use graphql_parser::{Error, Limits, Pos};
 use std::alloc::{AllocError, Global};
@@ -31,6 +38,8 @@ pub struct Finding {
     pub message: String,
     /// The word that may have been meant in place of the rejected token, if the message asks for it.
     pub meant: Option<&'static str>,
+    // Where the caret of the report stands, as a byte offset; None of an error about definitions.
+    pub(crate) caret: Option<usize>,
 }
 
 /// What [`explain`](crate::explain) reports of an error, in parts and without the line of the place. (This project's
@@ -96,21 +105,87 @@ fn syntax_finding(
         IsFinding (IsKnown language limits text.now read.now) language limits text.now read.now.from
         read.now.unclosed (Syntax message start stop) finding) }
 {
-    let details = details_of(alloc, language, text, read, limits)?;
-    let place = place_told(text, start, details.offset, details.is_inside);
-    let end = match read.token {
-        Some(token) => end_of_token(&token),
-        None => None,
+    let status = "SYNTAX";
+    let Some(token) = read.token else {
+        return Ok(Finding {
+            place: Some(start),
+            end: None,
+            status,
+            message: String::from_str(alloc, "syntax error: the text is refused")?,
+            meant: None,
+            caret: Some(text.len()),
+        });
     };
+    let front = read_before(text, read.from, token.start);
+    let expected = expected_after(alloc, language, front, limits)?;
+    let expected = expected.as_slice();
     let mut message = String::from_str(alloc, "syntax error: ")?;
-    message.push_str(details.message.as_str())?;
+    let passed = push_wrong(alloc, &mut message, text, &token, expected)?;
+    push_expected(&mut message, language, &token, expected)?;
+    let meant = push_more(alloc, &mut message, language, text, read, &token, expected)?;
+    let caret = token.start.saturating_add(passed);
     Ok(Finding {
-        place: Some(place),
-        end,
-        status: "SYNTAX",
+        place: Some(place_told(text, start, caret, passed > 0)),
+        end: end_of_token(&token),
+        status,
         message,
-        meant: details.meant,
+        meant,
+        caret: Some(caret),
     })
+}
+
+// The place where the caret stands: this one, that of the error, or inside the token the one at this offset.
+fn place_told(text: &str, start: Pos, offset: usize, is_inside: bool) -> Pos
+    ensures start { is_inside ≡ false → result ≡ start }
+    ensures inside { is_inside ≡ true → IsCharBoundary text.now offset → result ≡ place text.now offset }
+{
+    if is_inside {
+        return end_of(before(text, offset));
+    }
+    start
+}
+
+// Adds what was found, or what is wrong where no token begins, and returns how many bytes after the place that shows.
+fn push_wrong(
+    alloc: Global,
+    out: &mut String,
+    text: &str,
+    token: &Token<'_>,
+    expected: &[&'static str],
+) -> Result<usize, AllocError>
+    ensures told { OnOk result (IsWrong text.now (texts expected.now) (seen token.now)
+        (string_bytes out.old) (string_bytes out.new)) }
+    ensures caret { IfOk result (λ passed. IsWrongAfter text.now (seen token.now) passed) }
+{
+    if matches!(token.kind, TokenKind::Fault) {
+        let (_, rest) = split(text, token.start);
+        let fault = fault_of(alloc, rest, expects_value(expected))?;
+        out.push_str(fault.message.as_str())?;
+        return Ok(fault.offset);
+    }
+    out.push_str("found ")?;
+    push_found(out, token)?;
+    Ok(0)
+}
+
+// Adds what was meant, as far as that is known, and returns the word that may have been.
+fn push_more(
+    alloc: Global,
+    out: &mut String,
+    language: Language,
+    text: &str,
+    read: &ReadUpTo<'_>,
+    token: &Token<'_>,
+    expected: &[&'static str],
+) -> Result<Option<&'static str>, AllocError>
+    ensures { IfOk result (λ meant. AddsHintFor read.now.unclosed language (seen token.now).bare
+        (texts expected.now) (string_bytes out.old) (string_bytes out.new) (word_of meant)) }
+{
+    if let Some(place) = read.unclosed {
+        push_unclosed(out, place)?;
+        return Ok(None);
+    }
+    push_hint(alloc, out, language, text, token, expected)
 }
 
 // A token that nests too deep.
@@ -131,19 +206,24 @@ fn limit_finding(
             place: Some(place_of(text, text.len())),
             end: None,
             status,
-            message: format!(in alloc; "{TOO_DEEP} at the end of the text")?,
+            message: String::from_str(alloc, "recursion limit exceeded at the end of the text")?,
             meant: None,
+            caret: Some(text.len()),
         });
     };
     let depth = reached_limit(alloc, language, text, read.from, limits, &token)?;
-    let mut message = String::from_str(alloc, TOO_DEEP)?;
-    message.push_str(limit_remark(alloc, &depth, read)?.as_str())?;
+    let Depth { what, most } = depth;
+    let mut message = format!(in alloc; "recursion limit exceeded: {what} may nest {most} deep")?;
+    if let Some(place) = read.unclosed {
+        push_unclosed(&mut message, place)?;
+    }
     Ok(Finding {
         place: Some(place_of(text, token.start)),
         end: end_of_token(&token),
         status,
         message,
         meant: None,
+        caret: Some(token.start),
     })
 }
 
@@ -151,16 +231,25 @@ fn limit_finding(
 fn breach_finding(alloc: Global, error: &Error) -> Result<Finding, AllocError>
     ensures { IfOk result (TellsBreach error.now) }
 {
-    let place = error.positions().next();
-    let mut message = format!(in alloc; "{error}")?;
-    message.push_str(remark_of(error))?;
+    let remark = remark_of(error);
     Ok(Finding {
-        place,
+        place: error.positions().next(),
         end: None,
         status: status_of(error),
-        message,
+        message: format!(in alloc; "{error}{remark}")?,
         meant: None,
+        caret: None,
     })
+}
+
+// What is said after the message of an error about definitions.
+fn remark_of(error: &Error) -> &'static str
+    ensures { result.now ≡ first_remark error.now }
+{
+    match error {
+        Error::MultipleOperations { .. } => ", and this one has no name",
+        _ => "",
+    }
 }
 
 // Where the text stands from this offset on.

@@ -47,7 +47,7 @@ mod steps;
 mod style;
 mod words;
 
-pub use definitions::{ErrorOffsets, error_offsets};
+pub use definitions::{ErrorOffsets, SecondPlace, error_offsets};
 pub use findings::{Finding, finding_from, finding_of};
 pub use fronts::{Language, is_front};
 pub use refused::{refused_token, refused_token_from};

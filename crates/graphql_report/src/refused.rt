@@ -4,7 +4,7 @@ ghost use Rattle.std.specs.Str.{IsCharBoundary};
 ghost use Rattle.graphql_grammar.specs.declared.error.Error.TheVariants.{OutOfMemory, RecursionLimitExceeded};
 ghost use Rattle.graphql_report.specs.inner.Told.{ReadsTo};
 ghost use Rattle.graphql_report.specs.reports.Refused.{IsOfAToken, IsItsToken};
-ghost use Rattle.graphql_report.specs.reports.Reports.{IsLimitNamed};
+ghost use Rattle.graphql_report.specs.reports.Findings.{IsLimitNamed};
 ghost use Rattle.graphql_report.specs.reports.Rests.{BeginsAt, top};
 
 use crate::fronts::Language;

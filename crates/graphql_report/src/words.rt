@@ -1,5 +1,5 @@
 //! How a report names the rejected token, and what is expected in its place.
-ghost use Rattle.std.specs.Prelude.{◌≡◌, ◌++◌, [], OnOk, if◌then◌else◌, string_bytes};
+ghost use Rattle.std.specs.Prelude.{◌≡◌, ◌+◌, ◌==◌, ◌++◌, [], codes, OnOk, if◌then◌else◌, string_bytes};
 ghost use Rattle.graphql_tokens.specs.tokens.Seen.{seen};
 ghost use Rattle.graphql_report.specs.inner.Called.{texts};
 ghost use Rattle.graphql_report.specs.reports.Words.{cut, found, exception, expected as expected_text};
@@ -64,22 +64,26 @@ pub fn push_expected(
     ensures { OnOk result (string_bytes out.new ≡ string_bytes out.old ++
         expected_text language (seen token.now).bare (texts expected.now)) }
 {
-    let Some((first, others)) = expected.split_first() else {
-        return Ok(());
-    };
     let is_exact = is_no_enum_value(language, token, expected);
-    out.push_str(", expected ")?;
-    push_name(out, token, first, is_exact)?;
-    let Some((last, middle)) = others.split_last() else {
-        return Ok(());
-    };
-    for name in middle {
-        out.push_str(", ")?;
+    for (index, name) in expected.iter().enumerate() {
+        out.push_str(words_before(index, expected.len()))?;
         push_name(out, token, name, is_exact)?;
     }
-    out.push_str(" or ")?;
-    push_name(out, token, last, is_exact)?;
     Ok(())
+}
+
+// What stands before the one with this index, of so many.
+fn words_before(index: usize, count: usize) -> &'static str
+    ensures { result.now ≡ (if index == 0 then codes ", expected " else
+        (if index + 1 == count then codes " or " else codes ", ")) }
+{
+    if index == 0 {
+        ", expected "
+    } else if index == count.saturating_sub(1) {
+        " or "
+    } else {
+        ", "
+    }
 }
 
 // Adds what is expected, and what was found, if it is the one thing of that which may not stand there.
@@ -99,9 +103,8 @@ fn push_name(
         return Ok(());
     }
     if is_other {
-        out.push_str(" other than \"")?;
-        out.push_str(token.text)?;
-        out.push_str("\"")?;
+        let word = token.text;
+        write!(out, " other than \"{word}\"")?;
     } else if is_variable {
         out.push_str(" without variables")?;
     }

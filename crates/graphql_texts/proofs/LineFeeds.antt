@@ -2,13 +2,15 @@
 use Rattle.std.proofs.Common.{◌≡◌, ℕ, Bool, true, false, ◌&&◌, ◌==◌, List, [], ◌∷◌, ◌++◌, length, refl, sym, ap, ◌∙◌, subst, append_assoc, arith, rules}
 use Rattle.std.proofs.lemmas.Str.{chars-append, chars-IsAscii, encode_ascii}
 use lib.Utf8.{encode}
-use Rattle.std.specs.Str.{chars, IsUtf8}
+use Rattle.std.specs.Str.{byte, chars, IsUtf8}
+use Rattle.graphql_tokens.specs.tokens.Classes.{is_name_char}
 use Rattle.graphql_tokens.specs.tokens.Cuts.{IsCutInto, HasNoFault}
 use Rattle.graphql_tokens.specs.tokens.Ignored.{EndsLine}
-use Rattle.graphql_tokens.specs.tokens.Spelling.{MayFollow}
+use Rattle.graphql_tokens.specs.tokens.Numbers.{forbids_number}
+use Rattle.graphql_tokens.specs.tokens.Spelling.{MayFollow, forbids}
 use Rattle.graphql_tokens.specs.tokens.Token.{Token}
 use Rattle.graphql_tokens.specs.declared.lexer.TokenKind.{TokenKind}
-use Rattle.graphql_tokens.specs.declared.lexer.TokenKind.TheVariants.{Punct, Name, Number, String, Block, Fault, End}
+use Rattle.graphql_tokens.specs.declared.lexer.TokenKind.TheVariants.{Name, Number, String}
 use Rattle.graphql_layout.specs.texts.Items.{Item, comment, word, IsBlankText, IsItems, words}
 use Rattle.graphql_layout.specs.texts.LaidOut.{IsLaidOut}
 use Rattle.graphql_layout.specs.texts.LineEnds.{line_end}
@@ -23,23 +25,18 @@ and_false : (b : Bool) → (b && false) ≡ false
 and_false true = refl
 and_false false = refl
 
--- a line's end may follow each token
+-- a character that neither goes on a name or a number nor is a quote may follow each token
+not_forbidden : (kind : TokenKind) (w : List ℕ) (c : ℕ) → is_name_char c ≡ false → forbids_number c ≡ false → (c == byte "\"") ≡ false → forbids kind w c ≡ false
+not_forbidden Name w c name number quote = name
+not_forbidden Number w c name number quote = number
+not_forbidden String w c name number quote = ap (λ b. length w == 2 && b) quote ∙ and_false (length w == 2)
+not_forbidden other w c name number quote = refl
+
+-- and so may a line's end
 may_follow : (e : LineEnd) (kind : TokenKind) (w rest : List ℕ) → MayFollow kind w rest → MayFollow kind w (rest ++ line_end e)
 may_follow e kind w (c ∷ cs) h = h
-may_follow Feed Punct w [] h = refl
-may_follow Feed Name w [] h = refl
-may_follow Feed Number w [] h = refl
-may_follow Feed String w [] h = and_false (length w == 2)
-may_follow Feed Block w [] h = refl
-may_follow Feed Fault w [] h = refl
-may_follow Feed End w [] h = refl
-may_follow ReturnAndFeed Punct w [] h = refl
-may_follow ReturnAndFeed Name w [] h = refl
-may_follow ReturnAndFeed Number w [] h = refl
-may_follow ReturnAndFeed String w [] h = and_false (length w == 2)
-may_follow ReturnAndFeed Block w [] h = refl
-may_follow ReturnAndFeed Fault w [] h = refl
-may_follow ReturnAndFeed End w [] h = refl
+may_follow Feed kind w [] h = not_forbidden kind w 10 refl refl refl
+may_follow ReturnAndFeed kind w [] h = not_forbidden kind w 13 refl refl refl
 
 still_ends : (e : LineEnd) (rest : List ℕ) → EndsLine rest → EndsLine (rest ++ line_end e)
 still_ends e (c ∷ cs) h = h

@@ -23,7 +23,7 @@ pub struct Closing {
     pub brackets: String,
 }
 
-/// Brackets that are open and aren't closed.
+/// Brackets of a text that are open and aren't closed. (This project's own type.)
 #[derive(Drop)]
 pub struct Missing {
     // Where what closes them is missing.
@@ -33,15 +33,15 @@ pub struct Missing {
 }
 
 impl Missing {
-    /// Where the inmost of them stands, as a byte offset.
-    pub(crate) fn start(&self) -> usize {
+    // Where the inmost of them stands, as a byte offset.
+    pub(crate) fn inmost(&self) -> usize {
         match self.gap.open.last() {
             Some(inmost) => inmost.start,
             None => self.gap.next,
         }
     }
 
-    /// What closes them.
+    // What closes them.
     pub(crate) fn closing(&self, alloc: Global, text: &str) -> Result<Closing, AllocError> {
         closing_at(alloc, text, &self.gap, self.count)
     }

@@ -128,7 +128,8 @@ fn source_of(language: Language, text: &str, limits: Limits) -> Source<'_>
 }
 
 impl Diagnosis {
-    /// The brackets that aren't closed, if that is what is wrong with the text that this is a diagnosis of.
+    /// The brackets that aren't closed, if that is what is wrong with the text that this is a diagnosis of, which was
+    /// read as this language within these limits.
     ///
     /// An error says that memory was denied.
     pub fn missing(
@@ -148,7 +149,7 @@ impl Diagnosis {
     }
 
     /// What mends the text that this is a diagnosis of, if it is known: the word that may have been meant, or what
-    /// closes the brackets that are open, which [`Diagnosis::missing`] found.
+    /// closes the brackets that [`missing`](Diagnosis::missing) returns.
     ///
     /// An error says that memory was denied.
     pub fn fix(
@@ -174,11 +175,11 @@ impl Diagnosis {
 }
 
 impl Missing {
-    /// Where the inmost of the brackets was opened.
+    /// Where the inmost of them was opened, and what is said of it.
     pub fn opening(&self, text: &str) -> Other
         ensures { IsWithin text.now result.span }
     {
-        let start = self.start();
+        let start = self.inmost();
         Other {
             span: span_at(text, start, start.saturating_add(1)),
             message: NOT_CLOSED,
@@ -296,18 +297,18 @@ fn marks_of_definitions(
 {
     let offsets = error_offsets(alloc, told.text, &mistake.error)?;
     let first = span_of_words(source.text, mistake.offset_in_text(offsets.first));
-    let Some((offset, message)) = offsets.second else {
+    let Some(second) = offsets.second else {
         return Ok(Marks {
             span: first,
             other: None,
         });
     };
-    let second = span_of_words(source.text, mistake.offset_in_text(offset));
+    let span = span_of_words(source.text, mistake.offset_in_text(second.offset));
     Ok(Marks {
         span: first,
         other: Some(Other {
-            span: second,
-            message,
+            span,
+            message: second.remark,
         }),
     })
 }

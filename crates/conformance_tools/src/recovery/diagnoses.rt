@@ -1,7 +1,7 @@
 //! What is wrong with a text, as data for an editor, and texts that are mended by it.
 use graphql_parser::Limits;
 use graphql_report::Language;
-use graphql_texts::{Diagnosis, Fix, Other, Span, diagnoses_of};
+use graphql_texts::{Diagnosis, Fix, Missing, Other, Span, diagnoses_of};
 use rows::Shown;
 
 /// What is wrong with a text: of each thing where it is, as byte offsets with what stands there, its status, and the other place
@@ -42,7 +42,8 @@ fn first_fix(
     found: &Vec<Diagnosis>,
 ) -> Option<Fix> {
     for diagnosis in found {
-        let fix = fix_of(shown, language, text, diagnosis);
+        let missing = missing_of(shown, language, text, diagnosis);
+        let fix = fix_of(shown, text, diagnosis, missing.as_ref());
         if fix.is_some() {
             return fix;
         }
@@ -50,8 +51,28 @@ fn first_fix(
     None
 }
 
-fn fix_of(shown: &mut Shown, language: Language, text: &str, diagnosis: &Diagnosis) -> Option<Fix> {
-    match diagnosis.fix(shown.alloc(), language, text, Limits::default()) {
+fn missing_of(
+    shown: &mut Shown,
+    language: Language,
+    text: &str,
+    diagnosis: &Diagnosis,
+) -> Option<Missing> {
+    match diagnosis.missing(shown.alloc(), language, text, Limits::default()) {
+        Ok(missing) => missing,
+        Err(_) => {
+            shown.leave_out();
+            None
+        }
+    }
+}
+
+fn fix_of(
+    shown: &mut Shown,
+    text: &str,
+    diagnosis: &Diagnosis,
+    missing: Option<&Missing>,
+) -> Option<Fix> {
+    match diagnosis.fix(shown.alloc(), text, missing) {
         Ok(fix) => fix,
         Err(_) => {
             shown.leave_out();
@@ -61,21 +82,11 @@ fn fix_of(shown: &mut Shown, language: Language, text: &str, diagnosis: &Diagnos
 }
 
 // The other definition, or the bracket that isn't closed.
-fn other_of(
-    shown: &mut Shown,
-    language: Language,
-    text: &str,
-    diagnosis: &Diagnosis,
-) -> Option<Other> {
-    if diagnosis.other.is_some() {
-        return diagnosis.other;
-    }
-    match diagnosis.opening(shown.alloc(), language, text, Limits::default()) {
-        Ok(other) => other,
-        Err(_) => {
-            shown.leave_out();
-            None
-        }
+fn other_of(text: &str, diagnosis: &Diagnosis, missing: Option<&Missing>) -> Option<Other> {
+    match (diagnosis.other, missing) {
+        (Some(other), _) => Some(other),
+        (None, Some(missing)) => Some(missing.opening(text)),
+        (None, None) => None,
     }
 }
 
@@ -98,13 +109,14 @@ fn write_mended(shown: &mut Shown, language: Language, text: &str, fix: &Fix) {
 fn write_diagnosis(shown: &mut Shown, language: Language, text: &str, diagnosis: &Diagnosis) {
     write_span(shown, text, diagnosis.span);
     shown.word(diagnosis.status);
-    if let Some(other) = other_of(shown, language, text, diagnosis) {
+    let missing = missing_of(shown, language, text, diagnosis);
+    if let Some(other) = other_of(text, diagnosis, missing.as_ref()) {
         shown.word(" (");
         write_span(shown, text, other.span);
         shown.word(other.message);
         shown.word(")");
     }
-    if let Some(fix) = fix_of(shown, language, text, diagnosis) {
+    if let Some(fix) = fix_of(shown, text, diagnosis, missing.as_ref()) {
         shown.item(" [", &fix.title);
         shown.item(": ", &fix.span.start);
         shown.item("-", &fix.span.end);

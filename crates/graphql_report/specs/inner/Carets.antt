@@ -1,7 +1,7 @@
 -- Where the caret stands at a refused token.
 -- Source: this project's choice.
-use Rattle.std.specs.Prelude.{◌≡◌, ◌⊎◌, ℕ, ◌+◌, Bool, false, true, List, ◌∷◌, length, drop}
-use Rattle.std.specs.Str.{byte, chars, encode_utf8_all, IsCharBoundary}
+use Rattle.std.specs.Prelude.{◌≡◌, ◌⊎◌, ℕ, ◌+◌, List, length}
+use Rattle.std.specs.Str.{encode_utf8_all, IsCharBoundary}
 use Rattle.graphql_tokens.specs.tokens.Token.{Token}
 use Rattle.graphql_report.specs.reports.Escapes.{HasBadEscape, IsBadEscapeOf}
 
@@ -18,12 +18,3 @@ abbrev pub IsWrongAfter : List ℕ → Token → ℕ → Type 0
 IsWrongAfter text token passed =
     ((passed ≡ 0) × (IsCharBoundary text token.start → HasNoBadEscape text token))
     ⊎ (IsCharBoundary text token.start × IsBadEscapeOf text token (token.start + passed))
-
--- a backslash stands at this offset of the text
-abbrev pub IsAtBackslash : List ℕ → ℕ → Type 0
-IsAtBackslash text offset = IsCharBoundary text offset × ((rest : List ℕ) × (chars (drop offset text) ≡ byte "\\" ∷ rest))
-
--- The caret stands inside the token just where that has a bad escape: at a backslash, with which the first of these begins.
-abbrev pub IsCaretAt : (Token → Type 0) → List ℕ → ℕ → Bool → Type 0
-IsCaretAt is_refused text offset false = (token : Token) → is_refused token → HasNoBadEscape text token
-IsCaretAt is_refused text offset true = IsAtBackslash text offset × ((token : Token) → is_refused token → IsBadEscapeOf text token offset)

@@ -21,8 +21,11 @@ use Rattle.graphql_parser.specs.Checking.{checked}
 use Rattle.graphql_report.specs.declared.findings.Finding.{Finding}
 use Rattle.graphql_report.specs.declared.fronts.Language.{Language}
 use Rattle.graphql_report.specs.reports.Findings.{first_of, status_of}
+use Rattle.graphql_report.specs.declared.style.Style.{Style}
 use Rattle.graphql_report.specs.reports.Faults.{IsToldOfFault, expects_value}
 use Rattle.graphql_report.specs.reports.Hints.{IsExpectedWord, IsHintFor, word_of}
+use Rattle.graphql_report.specs.reports.Offsets.{first_remark}
+use Rattle.graphql_report.specs.reports.Reports.{IsShown, TellsLine}
 use Rattle.graphql_report.specs.reports.Words.{found}
 use Rattle.graphql_report.specs.declared.fronts.Language.TheVariants.{Requests, Schemas}
 
@@ -79,4 +82,14 @@ IsWrong text names token old new =
 
 -- what a finding says of an error that names no refused token
 abbrev pub TellsBreach : Error → Finding → Type 0
-TellsBreach error finding = (finding.place ≡ first_of (error_places error)) × (finding.end ≡ None) × (finding.status.now ≡ status_of error) × (word_of finding.meant ≡ None) × ((more : List ℕ) × (string_bytes finding.message ≡ error_text error ++ more))
+TellsBreach error finding = (finding.place ≡ first_of (error_places error)) × (finding.end ≡ None) × (finding.status.now ≡ status_of error) × (word_of finding.meant ≡ None) × (string_bytes finding.message ≡ error_text error ++ first_remark error)
+
+-- ---- parts of a report
+
+-- a text goes on with a message, as it is shown
+abbrev pub AddsMessage : Style → List ℕ → List ℕ → List ℕ → Type 0
+AddsMessage style message old new = (shown : List ℕ) × IsShown style message shown × (new ≡ old ++ shown)
+
+-- a report goes on with a place and what is said of it
+abbrev pub AddsPart : Style → List ℕ → Pos → List ℕ → List ℕ → List ℕ → Type 0
+AddsPart style file place message old new = (part : List ℕ) × TellsLine style file place message part × (new ≡ old ++ part)

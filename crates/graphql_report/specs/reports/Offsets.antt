@@ -27,6 +27,11 @@ IsOffsetOf text place offset = ((token : Token) × IsTokenOf text token × (toke
 
 -- ---- errors
 
+-- what a report says after the message of an error about definitions, before the line of its first place; mostly nothing
+abbrev pub first_remark : Error → List ℕ
+first_remark (MultipleOperations anonymous operation) = codes ", and this one has no name"
+first_remark other = []
+
 -- what a report says of the second place of an error about definitions; nothing of another error
 abbrev pub second_remark : Error → List ℕ
 second_remark (MultipleRoots root schema pos) = codes "the schema begins here"
@@ -40,9 +45,13 @@ second_remark other = []
 abbrev pub AreOffsetsOf : List ℕ → List Pos → List ℕ → ErrorOffsets → Type 0
 AreOffsetsOf text [] remark offsets = (offsets.first ≡ length text) × (offsets.second ≡ None)
 AreOffsetsOf text (place ∷ []) remark offsets = IsOffsetOf text place offsets.first × (offsets.second ≡ None)
-AreOffsetsOf text (place ∷ second ∷ more) remark offsets = IsOffsetOf text place offsets.first × IsSomeAnd offsets.second (λ other. IsOffsetOf text second other.0 × (other.1.now ≡ remark))
+AreOffsetsOf text (place ∷ second ∷ more) remark offsets = IsOffsetOf text place offsets.first × IsSomeAnd offsets.second (λ other. IsOffsetOf text second other.offset × (other.place ≡ second) × (other.remark.now ≡ remark))
 
--- The offsets of the places that an error about definitions names. Of a syntax error none is looked for.
+-- the places that an error about definitions names, the more important first
+abbrev pub definition_places : Error → List Pos
+definition_places (Syntax message start end) = []
+definition_places error = error_places error
+
+-- the offsets of these places
 abbrev pub AreErrorOffsets : List ℕ → Error → ErrorOffsets → Type 0
-AreErrorOffsets text (Syntax message start end) offsets = AreOffsetsOf text [] [] offsets
-AreErrorOffsets text error offsets = AreOffsetsOf text (error_places error) (second_remark error) offsets
+AreErrorOffsets text error offsets = AreOffsetsOf text (definition_places error) (second_remark error) offsets

@@ -3,4 +3,4 @@ use Rattle.graphql_report.proofs.TokensOf.{IsSought}
 use Rattle.graphql_report.proofs.definitions.offset_of.Given as goal
 
 abbrev pub invariant-loop-token : goal.invariant-loop-token
-invariant-loop-token l = IsSought l.text l.place (left l.token-iterator)
+invariant-loop-token l = IsSought l.text l.place (left l.token-iterator) l.offset

@@ -1,10 +1,12 @@
-use Rattle.std.proofs.Common.{◌≡◌, ◌++◌, take, flat_map}
-use Rattle.std.specs.Prelude.{codes}
+use Rattle.std.proofs.Common.{◌≡◌, ◌==◌, ◌++◌, drop}
 use Rattle.std.specs.String.{string_bytes}
 use Rattle.graphql_tokens.specs.tokens.Seen.{seen}
 use Rattle.graphql_report.specs.inner.Called.{texts}
-use Rattle.graphql_report.proofs.WordLists.{told_as}
+use Rattle.graphql_report.specs.reports.Words.{expected_of}
+use Rattle.graphql_report.proofs.WordLists.{told_as, told_from}
 use Rattle.graphql_report.proofs.words.push_expected.Given as goal
 
-abbrev pub invariant-loop-name : goal.invariant-loop-name
-invariant-loop-name l = string_bytes l.out ≡ string_bytes l.initial.out ++ flat_map (λ name. codes ", " ++ told_as l.is_exact (seen l.token).bare name) (texts (take l.name-index l.middle))
+abbrev pub invariant-loop-index : goal.invariant-loop-index
+invariant-loop-index l =
+    let told = told_as l.is_exact (seen l.token).bare in
+    string_bytes l.out ++ told_from told (l.index == 0) (texts (drop l.index l.expected)) ≡ string_bytes l.fn.out ++ expected_of told (texts l.expected)

@@ -7,8 +7,8 @@ use Rattle.graphql_tokens.specs.tokens.Seen.{seen}
 use Rattle.graphql_report.specs.reports.Faults.{IsToldOfFault}
 use Rattle.graphql_report.specs.reports.Words.{found}
 use Rattle.graphql_report.proofs.Carets.{wrong-after}
-use Rattle.graphql_report.proofs.report.push_wrong.Goals as goal
-use Rattle.graphql_report.proofs.report.push_wrong.Goals.{in-Fault, in_default}
+use Rattle.graphql_report.proofs.findings.push_wrong.Goals as goal
+use Rattle.graphql_report.proofs.findings.push_wrong.Goals.{in-Fault, in_default}
 
 pub returns-then-matches-clause-caret : goal.returns-then-matches-clause-caret
 returns-then-matches-clause-caret c =
