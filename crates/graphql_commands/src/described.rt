@@ -62,6 +62,8 @@ enum Value {
     OneOf(&'static str, &'static [&'static str]),
 }
 
+const VERSION: &str = "1.0.0";
+
 const ABOUT: &str =
     "Checks, formats and prints GraphQL requests and schema files, and serves editors";
 
@@ -287,7 +289,7 @@ not set or empty, and TERM is not dumb
 pub fn program<'a>(alloc: Global) -> Result<Command<'a>, AllocError> {
     let mut program = Command::new(alloc, "gql")
         .bin_name("gql")?
-        .version("1.0.0")
+        .version(VERSION)
         .about(ABOUT)
         .after_help(AFTER_HELP)
         .no_binary_name(true)
