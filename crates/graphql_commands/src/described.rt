@@ -48,7 +48,7 @@ struct Choice {
     shown_by: u8,
     taken_by: u8,
     value: Value,
-    // The option that a use of this one undoes.
+    // The option that a use of this one undoes, besides an earlier use of it.
     undoes: &'static str,
     help: &'static str,
 }

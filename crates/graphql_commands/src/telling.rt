@@ -70,6 +70,17 @@ impl Teller {
         }
     }
 
+    /// Writes the reports so far to standard error; a failure there changes no status. The error says that memory ran
+    /// out before: then only whole lines are written.
+    pub fn put_reports<E: Write>(&mut self, err: &mut E) -> Result<(), AllocError> {
+        put(err, whole_lines(self.reports.as_str()).as_bytes());
+        self.reports.clear();
+        if self.is_out_of_memory {
+            return Err(AllocError);
+        }
+        Ok(())
+    }
+
     /// The same as [`Teller::put_reports`], before one of so many files is begun. Each hundredth time it is shown how
     /// many are done.
     pub fn begin_file<E: Write>(&mut self, count: usize, err: &mut E) -> Result<(), AllocError> {
@@ -94,25 +105,15 @@ impl Teller {
 
     /// Takes away what is shown of how many files are done.
     pub fn hide_count<E: Write>(&mut self, err: &mut E) {
-        if let Ok(blanks) = " ".repeat(self.alloc, self.shown.len().saturating_sub(1))
-            && !self.shown.is_empty()
-        {
-            put(err, b"\r");
-            put(err, blanks.as_bytes());
-            put(err, b"\r");
-            self.shown.clear();
+        if self.shown.is_empty() {
+            return;
         }
-    }
-
-    /// Writes the reports so far to standard error; a failure there changes no status. The error says that memory ran
-    /// out before: then only whole lines are written.
-    pub fn put_reports<E: Write>(&mut self, err: &mut E) -> Result<(), AllocError> {
-        put(err, whole_lines(self.reports.as_str()).as_bytes());
-        self.reports.clear();
-        if self.is_out_of_memory {
-            return Err(AllocError);
+        put(err, b"\r");
+        for _ in 1..self.shown.len() {
+            put(err, b" ");
         }
-        Ok(())
+        put(err, b"\r");
+        self.shown.clear();
     }
 
     /// Memory ran out, so a file can't be read.
