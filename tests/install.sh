@@ -93,20 +93,73 @@ tarball() {
         programs_run "$work/tarball" ""
 }
 
+# What a program in the root of the tarball prints of itself, and of each of its commands.
+helps() {
+    in_root "$work/tarball" "/$1" --help
+    for command in $(in_root "$work/tarball" "/$1" --help | sed -n '/^Commands:$/,/^$/s/^  \([a-z]*\) .*/\1/p'); do
+        in_root "$work/tarball" "/$1" help "$command"
+    done
+}
+
 # Each option that the program prints of itself is in its manual page, which makes no tool complain.
 page_is_whole() {
-    sed 's/\\-/-/g; s/\\f[BIR]//g' "$1/$2.1" >"$work/page"
-    for word in $(in_root "$1" "/$2" --help | grep -oE -- '--[a-z]+'); do
+    sed 's/\\-/-/g; s/\\f[BIR]//g' "$work/tarball/$1.1" >"$work/page"
+    for word in $(helps "$1" | grep -oE -- '--[A-Za-z-]+'); do
         grep -qF -- "$word" "$work/page" || {
-            echo "$2.1 doesn't have $word"
+            echo "$1.1 doesn't have $word"
             return 1
         }
     done
-    is_same "warnings of $2.1" "$(man --warnings -l "$1/$2.1" 2>&1 >/dev/null)" ""
+    is_same "warnings of $1.1" "$(man --warnings -l "$work/tarball/$1.1" 2>&1 >/dev/null)" ""
 }
 
 manual_pages() {
-    page_is_whole "$work/tarball" gql && page_is_whole "$work/tarball" gqlparse
+    page_is_whole gql && page_is_whole gqlparse
+}
+
+# What bash completes these words to, the last of them.
+completed() {
+    # shellcheck disable=SC2016
+    bash -c '. "$0" && COMP_WORDS=("$@") COMP_CWORD=$(($# - 1)) && _gql && echo "${COMPREPLY[*]}"' \
+        "$work/tarball/completions/gql.bash" "$@"
+}
+
+bash_completes() {
+    bash -n "$work/tarball/completions/gql.bash" &&
+        is_same "gql ch" "$(completed gql ch)" check &&
+        is_same "gql check --sc" "$(completed gql check --sc)" --schema &&
+        is_same "gql check f" "$(completed gql check f)" "" &&
+        is_same "gql check --format j" "$(completed gql check --format j)" json &&
+        is_same "gql check --format=" "$(completed gql check --format =)" "text json github" &&
+        is_same "gql minify --pl" "$(completed gql minify --pl)" ""
+}
+
+fish_completes() {
+    cat >"$work/fish" <<END
+source $work/tarball/completions/gql.fish
+complete -C 'gql ch' | string split -f 1 \t
+complete -C 'gql check --sc' | string split -f 1 \t
+complete -C 'gql check --format j' | string split -f 1 \t
+END
+    is_same "what fish completes" "$(fish --no-config "$work/fish")" "check
+--schema
+json"
+}
+
+# zsh completes in its editor alone, which needs a terminal: there a function `gql` writes down with which words it is called.
+zsh_completes() {
+    zsh -n "$work/tarball/completions/_gql" || return 1
+    cat >"$work/zsh" <<'END'
+zmodload zsh/zpty
+zpty shell zsh -f -i
+zpty -w shell "fpath=($1/tarball/completions \$fpath); autoload -U compinit; compinit -u -d $1/dump"
+zpty -w shell "gql() { echo \$* >$1/called }"
+sleep 2
+zpty -w -n shell $'gql che\t --sche\t--format=j\t\n'
+sleep 2
+cat $1/called
+END
+    is_same "what zsh completes" "$(zsh -f "$work/zsh" "$work")" "check --schema --format=json"
 }
 
 dpkg_in() {
@@ -194,6 +247,13 @@ try_programs() {
     else
         skip "the manual pages" "there is no man"
     fi
+    for shell in bash fish zsh; do
+        if has "$shell"; then
+            part "completions in $shell" "${shell}_completes"
+        else
+            skip "completions in $shell" "there is no $shell"
+        fi
+    done
 }
 
 try_deb() {

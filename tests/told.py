@@ -102,11 +102,14 @@ FAULTS = {
     b".alone.graphql.gql-format": {OPEN: errno.EACCES},
 }
 GIVEN = b"{a}"
+# How many files are in the folder `many`.
+MANY = 250
 
 
 @contextlib.contextmanager
-def files():
-    """A folder with the files that are listed in `sources`, those that fail, and folders with links, pipes and odd names."""
+def files(is_many):
+    """A folder with the files that are listed in `sources`, those that fail, and folders with links, pipes and odd names; one has many
+    files, if they are asked for."""
     with tempfile.TemporaryDirectory() as made:
         top = Path(made, "top")
         for line in (TABLES / "sources").read_text().splitlines():
@@ -119,6 +122,8 @@ def files():
         put(Path(made, "outside.sdl"), b"")
         for name in ("locked", "empty", "mixed/\x1blocked"):
             (top / name).mkdir(parents=True)
+        for number in range(MANY if is_many else 0):
+            put(top / "many" / f"{number}.graphql", GIVEN)
         for name in ("links", "linked", "mixed"):
             put(top / name / os.fsdecode(b"\xff.txt"), b"")
             os.mkfifo(top / name / "pipe.gql")
@@ -136,7 +141,7 @@ def put(path, content):
 def run_over_files(programs, words, on_terminal=False, **faults):
     """Runs `gql` over the files: its status, what it writes to standard output and to standard error, and the files that are changed then,
     each with its text."""
-    with files() as top:
+    with files("many" in words) as top:
         before = {path: path.read_bytes() for path in top.rglob("*") if path.is_file()}
         watched = Faults(files=FAULTS, **faults)
         status, out, err = traced.run([programs.gql, *words], top, GIVEN, watched, on_terminal)
@@ -173,16 +178,14 @@ def run_of_gql(programs, _, run):
     return run if in_order(shown) == in_order(run.strip()) else shown
 
 
-# What help speaks of.
-TOLD = """check,format,minify,print,tree,tokens,lsp,--query,--schema,--limits S#V#T,--memory BYTES,--no-ignore,--check,--executable,
---format FORMAT,--color WHEN,--quiet,--places""".replace("\n", "").split(",")
-
-
 @one_by_one
 def help_told(programs, _, words):
-    """The status of a call for help that may write nothing to standard error, and what its help doesn't speak of."""
+    """The status of a call for help that may write nothing to standard error, its line of usage, and the commands and options that are
+    listed."""
     status, out, _, _ = run_over_files(programs, words.split(), writes={2: (0, errno.EIO)})
-    return f"{status}" + "".join(f" without {word}" for word in TOLD if word.replace("#", ",") not in out)
+    usage = re.search(r"^Usage: (.*)$", out, re.M)
+    listed = re.findall(r"^  (?:-\w, |    )?(--[\w-]+(?: <.*?>)?|[a-z]+) ", out, re.M)
+    return f"{status} {usage[1] if usage else 'no usage'}: {' '.join(listed)}"
 
 
 def cut_short(error):

@@ -10,7 +10,7 @@
 #![tactic(auto)]
 
 use graphql_commands::texts::{Disk, Texts};
-use graphql_commands::{Style, is_server, run};
+use graphql_commands::{Command, Style, command_of, run};
 use graphql_server::Server;
 use graphql_server::files::{Files, Unread};
 use std::alloc::Global;
@@ -26,16 +26,18 @@ fn main(rt: HostRuntime) -> ExitCode {
         Ok(words) => Ok(words.as_slice()),
         Err(error) => Err(error.kind()),
     };
-    if let Ok(words) = given
-        && is_server(words)
+    let asked = command_of(alloc, given);
+    if let Ok(call) = &asked
+        && matches!(call.command, Command::Lsp)
     {
         return ExitCode::from(serve(&rt));
     }
     let mut disk = Disk { rt: &rt };
     let status = run(
         alloc,
-        given,
+        asked,
         style_of(&rt),
+        rt.stderr().is_terminal(),
         &mut disk,
         &mut rt.stdout(),
         &mut rt.stderr(),

@@ -1,4 +1,2 @@
 -- Public: what a reader of the contracts of the program has to believe.
 pub mod checked
--- Inner: what private clauses cite.
-pub mod inner

@@ -1,4 +1,4 @@
--- Public: what the words of a call say, when the files are good that `gql check` finds good, and what `gql format` puts in their
+-- Public: what the options of a call say, when the files are good that `gql check` finds good, and what `gql format` puts in their
 -- place.
 pub mod Files
 pub mod Options

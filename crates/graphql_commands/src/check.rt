@@ -57,7 +57,7 @@ pub fn check_files<T: Texts, E: Write>(
 {
     let mut worst: u8 = 0;
     for file in files {
-        if teller.put_reports(err).is_err() {
+        if teller.begin_file(files.len(), err).is_err() {
             return 2;
         }
         worst = worst.max(check_file(call, file.as_str(), texts, teller));

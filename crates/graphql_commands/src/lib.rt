@@ -1,6 +1,6 @@
 //! The work of the program `gql`, over any source of texts and any writers.
 //!
-//! [`run`] does all that a call of the program asks for. The modules have its parts: what a call asks for
+//! [`command_of`] reads what the arguments ask for, and [`run`] does it. The modules have the parts: what a call asks for
 //! ([`command`]), where texts come from and go to ([`texts`]), what of a folder is ignored ([`ignoring`]), which files
 //! are good ([`check`]), what is reported of them ([`telling`]), files that are written anew ([`rewriting`]), and lists
 //! of tokens ([`listed`]). What is done with one text is `graphql_texts`.
@@ -14,6 +14,7 @@
 
 pub mod check;
 pub mod command;
+mod described;
 pub mod ignoring;
 pub mod listed;
 mod output;
@@ -24,6 +25,6 @@ pub mod telling;
 pub mod texts;
 mod walking;
 
-pub use command::is_server;
+pub use command::{Command, command_of};
 pub use graphql_report::{Language, Style};
 pub use program::run;

@@ -3,7 +3,7 @@ ghost use Rattle.std.specs.Prelude.{◌≡◌, ◌≤◌, ◌<◌, ◌⊎◌};
 ghost use Rattle.graphql_commands.specs.declared.texts.Unread.TheVariants.{Forbidden, BadName};
 
 use crate::check::{check_files, is_blank, source_of};
-use crate::command::{Call, Command, Format, NoCall, Wrong, command_of};
+use crate::command::{Call, Command, Format, NoCall};
 use crate::listed::tell_tokens;
 use crate::output::put;
 use crate::rewriting::{format_files, found_by, written_anew};
@@ -12,100 +12,42 @@ use crate::texts::{Listing, Passed, Texts, Unread};
 use graphql_report::Style;
 use graphql_texts::rewriting::tree_line;
 use std::alloc::{AllocError, Global};
-use std::io::{ErrorKind, Write};
-
-const VERSION: &str = "gql 1.0.0\n";
-
-const USAGE: &str =
-    "usage: gql check|format|minify|print|tree|tokens|lsp [OPTION].. [FILE].. (gql --help says more)\n";
+use std::io::Write;
 
 // What `run` says of `lsp`, which the program itself answers.
 const NO_SERVER: &str = "gql: an editor is served by the program alone\n";
-
-const HELP: &str = "usage: gql COMMAND [OPTION].. [FILE]..
-
-Commands:
-  check    reports what is wrong with each file, and with each file named *.graphql, *.graphqls, *.gqls, *.gql or
-           *.sdl below a folder: the first error of each definition, 100 of a file at most
-  format   lays out each file anew in its place, with its comments, and each such file below a folder; a file with an
-           error stays, and the error is reported. Standard input is laid out on standard output
-  minify   prints a file without comments, and without blanks and line ends that it doesn't need
-  print    prints the tree of a file as text, without comments, laid out as by format; a file of fragments alone has no
-           tree, and is rejected
-  tree     prints the tree of a file as JSON, as GraphQL.js has it
-  tokens   prints the tokens of a file, a line for each
-  lsp      serves an editor on standard input and output, by the Language Server Protocol; takes no file. The options
-           --stdio and --clientProcessId=N, which editors pass to every server, change nothing
-
-Without a file, and for the file -, standard input is read. Below a folder no link is followed to a folder or out of it,
-and what can't be read, or is no file, is reported and skipped. Hidden folders, those named node_modules, and what the file
-.gitignore in the folder excludes are not searched.
-
-Options:
-  --query          the texts are requests
-  --schema         the texts are schema files. Without either a file named *.graphqls, *.gqls or *.sdl is a schema
-                   file, and the first word of another file decides
-  --limits S,V,T   how deep selection sets, values and list types may nest, 256 at most; 64,64,64 without it
-  --memory BYTES   check: how much memory the check of a file may take; one that needs more counts as not read. No request
-                   of N bytes needs more than 1105 N + 1161, and no schema file more than 57
-  --no-ignore      check, format: searches all of a folder
-  --check          format: writes no file, and prints the names of those that it would; if there are any, the status is 1
-  --executable     check: a request needs an operation
-  --fragments      check: it needs none, as without --executable: fragments alone are good, and so is a file that is empty
-                   or has nothing but comments
-  --format FORMAT  check: text, for people, as without it; json, a line for each finding: its file, its line, column,
-                   endLine and endColumn if it has a place, its severity, status and message; or github, a line for
-                   each, with which GitHub shows it where it is
-  --color WHEN     always, never, or auto, as without it: if standard error is a terminal, NO_COLOR is not set or empty,
-                   and TERM is not dumb
-  -v, --verbose    check: a line for each good file; format: one for each that is written
-  -q, --quiet      check, format: nothing but the status
-  --places         tree: with the line and the column of each node that has a place
-  --               each word after it is a file
-  -h, --help       prints this
-  -V, --version    prints the version
-
-Reports for people go to standard error, and how many files there were to standard output, as do the lines of json and
-github. The status is 0 if all files are good, 1 if one is rejected, and 2 if one can't be read or written, if the output
-can't be written, if memory runs out, and for a wrong call. If the reader of standard output has gone away, as head does,
-the status is the same as if it had stayed.
-";
 
 /// Does the work of the program, and returns the exit status: 0, or 1 if a text is rejected, or would be written anew
 /// and is only checked, or 2 for wrong arguments, a file that can't be read or written or is no UTF-8, output that
 /// can't be written, and memory that is refused. That the reader of `out` has gone away changes no status.
 ///
-/// `words` are the arguments without the program's name, or how reading them failed: without memory, or else since one
-/// is no text. Texts are read from `texts`, and put there in the place of others; lists, trees and other texts go to
-/// `out`, reports and complaints to `err`, the reports in this style. If memory runs out, nothing goes to `out`, and
-/// what goes to `err` are whole lines of what went there else, and that memory ran out.
+/// `asked` is what the arguments ask for. Texts are read from `texts`, and put there in the place of others; lists,
+/// trees and other texts go to `out`, reports and complaints to `err`, the reports in this style. If memory runs out,
+/// nothing goes to `out`, and what goes to `err` are whole lines of what went there else, and that memory ran out. If
+/// `counts`, a terminal reads `err`, and it is shown there how many files are done while there are many to do.
 pub fn run<T: Texts, O: Write, E: Write>(
     alloc: Global,
-    words: Result<&[String], ErrorKind>,
+    asked: Result<Call<'_>, NoCall>,
     style: Style,
+    counts: bool,
     texts: &mut T,
     out: &mut O,
     err: &mut E,
 ) -> u8
     ensures { result ≤ 2 }
 {
-    let asked = match words {
-        Ok(words) => command_of(alloc, words),
-        Err(ErrorKind::OutOfMemory) => Err(NoCall::NoMemory),
-        Err(_) => Err(NoCall::Wrong(Wrong::NotText)),
-    };
     match asked {
         Ok(call) => {
             let mut teller = Teller::new(alloc, Format::Text, style, false);
+            teller.counts = counts && !call.is_quiet;
             let status = answer_to_call(&call, texts, &mut teller, err);
+            teller.hide_count(err);
             end(&mut teller, status, out, err)
         }
-        Err(NoCall::Help) => print(HELP, 0, out, err),
-        Err(NoCall::Version) => print(VERSION, 0, out, err),
-        Err(NoCall::Wrong(wrong)) => {
-            let mut teller = Teller::new(alloc, Format::Text, style, false);
-            teller.report_call(wrong, USAGE);
-            end(&mut teller, 2, out, err)
+        Err(NoCall::Shown(text)) => print(text.as_str(), 0, out, err),
+        Err(NoCall::Wrong(text)) => {
+            put(err, text.as_bytes());
+            2
         }
         Err(NoCall::NoMemory) => run_out(err),
     }

@@ -5,7 +5,7 @@ ghost use Rattle.graphql_report.specs.reports.Rests.{BeginsAt};
 ghost use Rattle.graphql_commands.specs.declared.check.Found.TheVariants.{Unread as NotRead};
 
 use crate::check::Found;
-use crate::command::{Format, Valued, Wrong};
+use crate::command::Format;
 use crate::listed::push_in_one_line;
 use crate::output::{push_shown, push_visible, put, reported_name, shown_name, whole_lines};
 use crate::texts::{Unread, Unwritten};
@@ -40,6 +40,11 @@ pub struct Teller {
     // What goes to standard error.
     reports: String,
     is_out_of_memory: bool,
+    /// Whether a terminal shows how many of many files are done.
+    pub counts: bool,
+    // How many were begun, and what the terminal shows of it.
+    begun: usize,
+    shown: String,
 }
 
 impl Teller {
@@ -59,6 +64,9 @@ impl Teller {
             unwritten: 0,
             reports: String::new(alloc),
             is_out_of_memory: false,
+            counts: false,
+            begun: 0,
+            shown: String::new(alloc),
         }
     }
 
@@ -71,6 +79,41 @@ impl Teller {
             return Err(AllocError);
         }
         Ok(())
+    }
+
+    /// The same as [`Teller::put_reports`], before one of so many files is begun. Each hundredth time it is shown how
+    /// many are done.
+    pub fn begin_file<E: Write>(&mut self, count: usize, err: &mut E) -> Result<(), AllocError> {
+        if !self.reports.is_empty() {
+            self.hide_count(err);
+        }
+        self.put_reports(err)?;
+        if self.counts && self.begun > 0 && self.begun % 100 == 0 {
+            self.show_count(count, err);
+        }
+        self.begun = self.begun.saturating_add(1);
+        Ok(())
+    }
+
+    // Shows how many of so many files are done, if there is memory for that.
+    fn show_count<E: Write>(&mut self, count: usize, err: &mut E) {
+        if let Ok(shown) = format!(in self.alloc; "\r{}/{count} files", self.begun) {
+            put(err, shown.as_bytes());
+            self.shown = shown;
+        }
+    }
+
+    /// Takes away what is shown of how many files are done.
+    pub fn hide_count<E: Write>(&mut self, err: &mut E) {
+        if self.shown.is_empty() {
+            return;
+        }
+        put(err, b"\r");
+        for _ in 1..self.shown.len() {
+            put(err, b" ");
+        }
+        put(err, b"\r");
+        self.shown.clear();
     }
 
     /// Memory ran out, so a file can't be read.
@@ -112,32 +155,6 @@ impl Teller {
         self.report_shown(reported_name(name));
         self.report(" ");
         self.report(why);
-    }
-
-    /// Reports what is wrong with the arguments, and then how the program is called.
-    pub fn report_call(&mut self, wrong: Wrong<'_>, usage: &str) {
-        let (what, before, word) = match wrong {
-            Wrong::NoCommand => ("a command is missing", "", ""),
-            Wrong::UnknownCommand(word) => ("unknown command", " ", word),
-            Wrong::UnknownOption(word) => ("unknown option", " ", word),
-            Wrong::OtherOption(word) => ("this command takes no option", " ", word),
-            Wrong::NoValue(option) => (needs(option), "", ""),
-            Wrong::WrongValue(option, word) => (needs(option), ", and not ", word),
-            Wrong::SecondFile(word) => (
-                "this command takes one file, and there is a second",
-                " ",
-                word,
-            ),
-            Wrong::NoFile(word) => ("this command takes no file, and there is one", " ", word),
-            Wrong::NotAlone => ("standard input is formatted alone", "", ""),
-            Wrong::NotText => ("an argument is not UTF-8", "", ""),
-        };
-        self.report("gql: ");
-        self.report(what);
-        self.report(before);
-        self.report_shown(word);
-        self.report("\n");
-        self.report(usage);
     }
 
     // ---- Lines
@@ -512,14 +529,5 @@ fn before<'a>(
         places
     } else {
         PositionCalculator::new(text)
-    }
-}
-
-fn needs(option: Valued) -> &'static str {
-    match option {
-        Valued::Limits => "--limits needs three numbers of at most 256, as 64,64,64",
-        Valued::Memory => "--memory needs a number of bytes",
-        Valued::Format => "--format needs text, json or github",
-        Valued::Color => "--color needs always, never or auto",
     }
 }

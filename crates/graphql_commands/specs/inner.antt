@@ -1,2 +1,0 @@
--- Inner: what private clauses cite.
-pub mod Words
