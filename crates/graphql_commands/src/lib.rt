@@ -9,7 +9,7 @@
 //! have a tree, in the language that the options or the file's name say, or if it has no token and may have none, and
 //! the files that are checked end with status 0 only if each of them was found good; only a good text is written anew,
 //! and it means the same then, and so does what is printed of a tree; what is put in the place of a file is what was
-//! read of it, laid out. What else it prints is tested, in `conformance`.
+//! read of it, laid out. What else it prints is tested, in `tests/tables`.
 #![tactic(auto)]
 
 pub mod check;

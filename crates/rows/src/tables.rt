@@ -2,7 +2,7 @@
 use crate::little_memory::all_but;
 use crate::notation::{pair, write_in_one_line, write_meant};
 use crate::row::REFUSED;
-use crate::trying::{self, once};
+use crate::trying::{once, try_row};
 use crate::{Calls, Shown};
 use std::test::Fail;
 use std::{env, fs, io};
@@ -233,13 +233,14 @@ impl<'a, C: Calls> Judged<'a, C> {
 
     // Makes the call of a row, and reports what was expected and what was found, unless that is the same.
     fn judge(&mut self, call: &str) {
-        let text = self.text.whole().unwrap_or("");
-        match self.way {
-            Way::Once => self.calls.answer(&mut self.found, call, text),
-            Way::Refused { has_end } => {
-                trying::answer(self.calls, &mut self.found, has_end, call, text)
-            }
-        }
+        let (calls, way) = (self.calls, self.way);
+        make_call(
+            calls,
+            way,
+            &mut self.found,
+            call,
+            self.text.whole().unwrap_or(""),
+        );
         let found = self.found.whole().unwrap_or("out of memory");
         let wanted = self.wanted.whole().unwrap_or("out of room");
         self.rows = self.rows.saturating_add(1);
@@ -255,6 +256,14 @@ impl<'a, C: Calls> Judged<'a, C> {
         self.text.clear();
         self.found.clear();
         self.wanted.clear();
+    }
+}
+
+// Writes what the call of a row makes of its text.
+fn make_call<C: Calls>(calls: C, way: Way, shown: &mut Shown, call: &str, text: &str) {
+    match way {
+        Way::Once => calls.answer(shown, call, text),
+        Way::Refused { has_end } => try_row(calls, shown, has_end, call, text),
     }
 }
 

@@ -17,7 +17,7 @@ pub trait Input: Drop {
 
 /// Writes the answer where there is memory, unless the call ends in another way at the end of memory, or not in each
 /// way in which it may end. Where memory has no end, as in `rt try`, the call is made once.
-pub fn answer<C: Calls>(calls: C, shown: &mut Shown, has_end: bool, call: &str, text: &str) {
+pub fn try_row<C: Calls>(calls: C, shown: &mut Shown, has_end: bool, call: &str, text: &str) {
     if !calls.try_row(shown, &Row::new(call, text, has_end)) {
         shown.leave_out();
     }
