@@ -91,7 +91,8 @@ fn push_comma(text: &mut String, last: Last, line_end: LineEnd) -> Result<(), Al
     }
 }
 
-#[inline(always)]
+// Ends a line. Never inlined: most tokens end none.
+#[inline(never)]
 fn push_line(text: &mut String, last: Last, line_end: LineEnd) -> Result<(), AllocError>
     requires { IsSheet (string_bytes text.old) last }
     ensures ok { OnOk result (Holds (string_bytes text.new) (Last.Other Ending.Open)
