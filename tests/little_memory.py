@@ -21,8 +21,9 @@ from traced import Faults
 
 PAGE = resource.getpagesize()
 FILES = 12
-# How long the first file is at least, and by how much each is longer than the one before.
-LENGTH, GROWTH = 40_000, 9_000
+# How long the first file is at least, longer than what the program frees when it has read its arguments; and by how much each is longer
+# than the one before.
+LENGTH, GROWTH = 300_000, 9_000
 # The heap grows by what is asked for, and no more.
 ENVIRONMENT = {"GLIBC_TUNABLES": "glibc.malloc.top_pad=0"}
 # How `gqlparse` ends if memory is refused inside the parser, and outside of it.
