@@ -88,7 +88,7 @@ fn write_fix(asked: Asked<'_>, fix: &Fix, json: &mut JsonWriter) -> Result<(), A
     let new = with_line_end(asked.alloc, fix.new.as_str(), line_end_of(asked.text()))?;
     json.object_member("edit");
     json.object_member("changes");
-    json.list_member(asked.uri);
+    json.named_list(asked.uri);
     write_edit(range, new.as_str(), json);
     json.end_list();
     json.end_object();

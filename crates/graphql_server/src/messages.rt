@@ -88,7 +88,7 @@ const ERROR: usize = 1;
 
 /// Writes a member that is a list of diagnostics for a client.
 pub fn write_diagnostics(
-    name: &str,
+    name: &'static str,
     diagnostics: &[Diagnostic<'_>],
     client: &Client,
     json: &mut JsonWriter,

@@ -4,7 +4,7 @@ use std::alloc::{AllocError, Global};
 use text_edits::{Encoding, Position, Range};
 
 // The position is kept of each so many bytes.
-const STEP: usize = 16;
+const STEP: usize = 8;
 
 /// The positions of a text's offsets, each found in the same time however long its line is. (A `text_edits::Document` goes over the
 /// line; the positions are the same.)

@@ -50,7 +50,8 @@ impl JsonWriter {
         self.has_failed = self.has_failed || written.is_err();
     }
 
-    // Writes a piece of the text.
+    // Writes a piece of the text. Inlined, so that a piece of a length that is known is copied at once.
+    #[inline(always)]
     fn push(&mut self, piece: &str) {
         if !self.has_failed {
             self.has_failed = self.json.push_str(piece).is_err();
@@ -91,10 +92,11 @@ impl JsonWriter {
         self.needs_comma = true;
     }
 
-    /// Writes the name of a member, whose value is written next.
-    pub fn name(&mut self, name: &str) {
-        self.text(name);
-        self.push(":");
+    /// Writes the name of a member, whose value is written next. None of its characters has to be escaped.
+    pub fn name(&mut self, name: &'static str) {
+        self.begin("\"");
+        self.push(name);
+        self.push("\":");
         self.needs_comma = false;
     }
 
@@ -159,7 +161,7 @@ impl JsonWriter {
     }
 
     /// Writes a member whose value is the words that were added.
-    pub fn said_member(&mut self, name: &str) {
+    pub fn said_member(&mut self, name: &'static str) {
         let empty = String::new(*self.said.allocator());
         let said = mem::replace(&mut self.said, empty);
         self.text_member(name, said.as_str());
@@ -168,49 +170,55 @@ impl JsonWriter {
     // ---- Members of an object
 
     /// Begins a member that is an object.
-    pub fn object_member(&mut self, name: &str) {
+    pub fn object_member(&mut self, name: &'static str) {
         self.name(name);
         self.begin_object();
     }
 
     /// Begins a member that is a list.
-    pub fn list_member(&mut self, name: &str) {
+    pub fn list_member(&mut self, name: &'static str) {
         self.name(name);
         self.begin_list();
     }
 
-    pub fn text_member(&mut self, name: &str, text: &str) {
+    /// The same with a name whose characters may have to be escaped.
+    pub fn named_list(&mut self, name: &str) {
+        self.text(name);
+        self.push(":[");
+        self.needs_comma = false;
+    }
+
+    pub fn text_member(&mut self, name: &'static str, text: &str) {
         self.name(name);
         self.text(text);
     }
 
-    pub fn size_member(&mut self, name: &str, number: usize) {
+    pub fn size_member(&mut self, name: &'static str, number: usize) {
         self.name(name);
         self.size(number);
     }
 
-    pub fn boolean_member(&mut self, name: &str, value: bool) {
+    pub fn boolean_member(&mut self, name: &'static str, value: bool) {
         self.name(name);
         self.boolean(value);
     }
 
     /// Writes a member that is a range of a text.
-    pub fn range_member(&mut self, name: &str, range: Range) {
+    pub fn range_member(&mut self, name: &'static str, range: Range) {
         self.name(name);
-        self.push("{\"start\":");
+        self.push("{\"start\":{\"line\":");
         self.push_position(range.start);
-        self.push(",\"end\":");
+        self.push("},\"end\":{\"line\":");
         self.push_position(range.end);
-        self.end_object();
+        self.push("}}");
+        self.needs_comma = true;
     }
 
-    // Writes a position.
+    // Writes a position from the number of its line to that of its character.
     fn push_position(&mut self, position: Position) {
-        self.push("{\"line\":");
         self.push(Buffer::new().format(position.line));
         self.push(",\"character\":");
         self.push(Buffer::new().format(position.character));
-        self.push("}");
     }
 }
 
