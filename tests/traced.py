@@ -1,10 +1,12 @@
 """Runs a program whose system calls are watched, and made to fail where a test says so: on Linux with x86-64, by ptrace.
 
 The program is stopped before each call. A call may get another length, as `read at most 2 bytes`, or fail with an error without being
-made. So a disk that is full, a file that nobody may read, and a pipe that breaks in mid-stream are tried without a real one."""
-import contextlib, ctypes, os, pty, signal, tempfile, tty
+made. So a disk that is full, a file that nobody may read, a pipe that breaks in mid-stream, and memory that ends are tried without a
+real one."""
+import contextlib, ctypes, errno, os, pty, signal, tempfile, tty
 
 READ, WRITE, OPEN, PREAD, PWRITE, TRUNCATE = 0, 1, 257, 17, 18, 77
+MAP, BREAK, REMAP = 9, 12, 25
 TRACE_ME, GET_REGISTERS, SET_REGISTERS, GO_ON, SET_OPTIONS = 0, 12, 13, 24, 0x4200
 MARK_CALLS, DIE_WITH_TRACER = 1, 0x100000
 NAMES = "r15 r14 r13 r12 rbp rbx r11 r10 r9 r8 rax rcx rdx rsi rdi call rip cs eflags rsp ss fs_base gs_base ds es fs gs".split()
@@ -24,12 +26,13 @@ class Faults:
 
     `reads` and `writes` say after how many calls that of a stream fails, and with which error: {1: (0, errno.EIO)} fails the first write
     to standard output. `at_once` has how many bytes such a call takes at most. `files` says what fails of files, by their names: of
-    each a way, as OPEN, "write" for opening it to write, or PWRITE, and the error."""
+    each a way, as OPEN, "write" for opening it to write, or PWRITE, and the error. `memory` says how many requests for memory are granted:
+    each of the program's is then one call."""
 
-    def __init__(self, files=(), reads=(), writes=(), at_once=(1 << 30, 1 << 30)):
-        self.files, self.at_once = dict(files), at_once
+    def __init__(self, files=(), reads=(), writes=(), at_once=(1 << 30, 1 << 30), memory=None):
+        self.files, self.at_once, self.memory = dict(files), at_once, memory
         self.left = {READ: dict(reads), WRITE: dict(writes)}
-        self.names = {}
+        self.names, self.end = {}, 0
         self.written = []
 
     def fault(self, process, registers):
@@ -37,6 +40,10 @@ class Faults:
         call, first = registers.call, registers.rdi
         if call == OPEN:
             return self.fault_of_open(process, registers)
+        if call in (MAP, BREAK, REMAP) and self.memory is not None:
+            self.memory -= 1
+            # A break that can't be moved is answered as it is.
+            return None if self.memory >= 0 else -self.end if call == BREAK else errno.ENOMEM
         if call in (READ, WRITE) and first <= 2 and not self.names.get(first):
             registers.rdx = min(registers.rdx, self.at_once[call])
             left, error = self.left[call].get(first, (1, None))
@@ -60,6 +67,8 @@ class Faults:
 
     def made(self, call, result):
         """A call was made."""
+        if call == BREAK:
+            self.end = result
         if call == OPEN and result < 1 << 20:
             name = self.opened
             self.names[result] = name if name in self.files else os.path.basename(name)
@@ -113,7 +122,7 @@ def follow(process, faults):
             passed_on = os.WSTOPSIG(status) if os.WSTOPSIG(status) != signal.SIGTRAP else None
             continue
         is_inside = not is_inside
-        if not is_inside and error is None and call != OPEN:
+        if not is_inside and error is None and call not in (OPEN, BREAK):
             continue
         ask(GET_REGISTERS, process, None, ctypes.addressof(registers))
         if is_inside:
@@ -135,6 +144,8 @@ def run(words, folder, given=b"", faults=None, on_terminal=False):
     and to standard error, which is a terminal or a file."""
     faults = faults or Faults()
     environment = {"TERM": "xterm", "TMPDIR": "/tmp", "PATH": os.environ.get("PATH", "")}
+    if faults.memory is not None:
+        environment["GLIBC_TUNABLES"] = "glibc.malloc.mmap_threshold=0"
     with tempfile.TemporaryFile() as source, tempfile.TemporaryFile() as out, tempfile.TemporaryFile() as err:
         source.write(given)
         source.seek(0)
