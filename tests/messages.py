@@ -14,14 +14,14 @@ SCHEMA = graphql.build_schema("type Query { a: Int }")
 
 HEAD = '''# Messages
 
-What `gql check --executable` says of a request, and after `core:` graphql-core {version}, the port of GraphQL.js to Python: single
-quotes for double ones, without `Syntax Error: `, at our first place unless it gives another. Without a `core:` it accepts the
-text: it has no limit of depth, reads type definitions too, and asks for no operation. Each line of ours comes after the file's
-name and, if it has a place, before [the text's line with a caret](../README.md#try-it). One ends in `(the block string that
-begins at 2:3 is probably not closed)` if nothing closes a block string: then definitions after it may be left out.
+What `gql check --executable` reports for a request, and after `core:` graphql-core {version}, the port of GraphQL.js to Python: with
+single quotes for double ones, without `Syntax Error: `, at our first place unless it has another. Without `core:` it accepts the
+text: it doesn't limit depth, reads type definitions too, and needs no operation. Our lines come after the file's name and, with a
+place, before [the text's line with a caret](../README.md#try-it). One ends in `(the block string that begins at 2:3 is probably not
+closed)` if nothing closes a block string: then later definitions may be missing.
 
-`tests/messages.py` makes this page of the tested rows of `tests/tables/reports_messages.rows` and of graphql-core's
-parser and its three rules on names.'''
+`tests/messages.py` makes this page from the tested rows of `tests/tables/reports_messages.rows` and graphql-core's parser and three
+rules on names.'''
 SYNTAX = "syntax error: "
 
 
