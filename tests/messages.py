@@ -20,7 +20,7 @@ text: it doesn't limit depth, reads type definitions too, and needs no operation
 place, before [the text's line with a caret](../README.md#try-it). One ends in `(the block string that begins at 2:3 is probably not
 closed)` if nothing closes a block string: then later definitions may be missing.
 
-`tests/messages.py` makes this page from the tested rows of `tests/tables/reports_messages.rows` and graphql-core's parser and three
+`tests/messages.py` makes this page from the tested rows of `tests/tables/reports_messages.rows`, and graphql-core's parser and three
 rules on names.'''
 SYNTAX = "syntax error: "
 
