@@ -6,9 +6,9 @@
 # What a machine's files do is no clause's: that each is written in its place, with its permissions, its owner, its attributes and
 # its links, that its old text is there or in a copy at each moment, and which files of a folder are found. PROGRAM is `gql` at
 # the top if none is named. As root it runs the parts about files that may not be written as nobody, who has to be able to run
-# PROGRAM. It needs Debian's tools, and says what it leaves out where `setfacl`, `setfattr` or the rights to mount are missing.
+# PROGRAM. It needs Debian's tools, and says what it leaves out if `setfacl`, `setfattr` or the rights to mount are missing.
 #
-# The status is 0 only where all is as it should be. It is run by hand, when `replacing.rt`, `walking.rt` or `texts.rt` has changed.
+# The status is 0 only if all is as it should be. It is run by hand, when `replacing.rt`, `walking.rt` or `texts.rt` has changed.
 set -u
 gql=$(readlink -f -- "${1:-$(dirname -- "$(readlink -f -- "$0")")/../gql}")
 folder=$(mktemp -d)

@@ -6,8 +6,8 @@
 Texts are the rows of the tables of `crates` and of tests/tables, and COUNT random texts of each language (2,000 without it) of
 `tests/random_texts.py`. GraphQL.js prints those that it reads. The tokens of what it prints, one blank apart, have to be
 formatted to that again, byte for byte, and so has what it prints itself: the block strings among them are spelled as in the
-text, where the two have the same tokens, and lines end in CR LF where the first one in them does. No minified text may be
-longer than what `stripIgnoredCharacters` gives. It prints the texts for which that doesn't hold, and last how many there were
+text, if the two have the same tokens, and lines end in CR LF if the first one in them does. No minified text may be
+longer than what `stripIgnoredCharacters` returns. It prints the texts for which that doesn't hold, and last how many there were
 of which kind; its status is 1 if there was one. Texts with a line of blanks inside a block string are left out: one that
 GraphQL.js reads otherwise than `gql` is kept as it is spelled.
 
@@ -117,7 +117,7 @@ def printed_by_node(texts):
 
 
 def formatted(language, texts):
-    """What `gql format` makes of each text, in place; None of those that it refuses."""
+    """What `gql format` makes of each text, in place; None for those that it rejects."""
     with tempfile.TemporaryDirectory() as folder:
         files = [pathlib.Path(folder) / f"{number}.graphql" for number in range(len(texts))]
         for file, text in zip(files, texts):
@@ -140,7 +140,7 @@ def ended_as(text, printed):
 
 
 def compare(language, texts):
-    """How many texts were alike, different, refused by gql alone, and not read by GraphQL.js."""
+    """How many texts were alike, different, rejected by gql alone, and not read by GraphQL.js."""
     seen = printed_by_node(texts)
     read = [(text, tree) for text, tree in zip(texts, seen) if tree is not None]
     alike = different = refused = 0
@@ -171,8 +171,8 @@ def main():
         for name, texts in (("rows", rows[language]), ("random texts", random_texts(language, seed, count))):
             alike, different, refused, unread = compare(language, texts)
             print(
-                f"{language}, {name}: {alike} alike, {different} different, {refused} refused by gql alone, "
-                f"{unread} left out or refused by GraphQL.js"
+                f"{language}, {name}: {alike} alike, {different} different, {refused} rejected by gql alone, "
+                f"{unread} left out or rejected by GraphQL.js"
             )
             status = status or (1 if different else 0)
     return status

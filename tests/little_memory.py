@@ -5,9 +5,9 @@
 reports of the first files, each of them whole, then `gql: out of memory`, and end with status 2; and every number of reports has to come.
 The first limit is the least with which the program starts, and each is a page more than the one before.
 
-`gqlparse` has the runs of tests/tables/gqlparse, and each of its requests for memory is the first in turn that is refused. A run has to
+`gqlparse` has the runs of tests/tables/gqlparse, and each of its allocations in turn is the first that fails. A run has to
 end as it stands there, or report that memory ran out, inside the parser or outside of it, and write nothing else; of a text all three
-have to come, but where a limit is exceeded, before the parser may need memory.
+have to come, unless a limit is exceeded, before the parser may need memory.
 
 A line is printed for each program; the status is 0 if all is as it has to be."""
 import os, re, resource, subprocess, sys, tempfile
@@ -26,13 +26,13 @@ FILES = 12
 LENGTH, GROWTH = 300_000, 9_000
 # The heap grows by what is asked for, and no more.
 ENVIRONMENT = {"GLIBC_TUNABLES": "glibc.malloc.top_pad=0"}
-# How `gqlparse` ends if memory is refused inside the parser, and outside of it.
+# How `gqlparse` ends if an allocation fails inside the parser, and outside of it.
 INSIDE = (1, b"", b"error: out of memory\nat []\n")
 OUTSIDE = (2, b"", b"error: out of memory\n")
 
 
 def run(words, folder, pages=None):
-    """What a run within so many pages of addresses ends with: its status and what it reports."""
+    """What a run within `pages` pages of addresses ends with: its status and what it reports."""
     def limit():
         if pages:
             resource.setrlimit(resource.RLIMIT_AS, (pages * PAGE, pages * PAGE))
@@ -80,13 +80,13 @@ def ended_of(row):
 
 
 def run_refused(program, row, granted):
-    """How a run ends of which so many requests for memory are granted, and then none."""
+    """How a run ends in which the first `granted` allocations succeed, and then none."""
     words, given = asked_of_gqlparse(row)
     return traced.run([program, *words], "/", given, Faults(memory=granted))
 
 
 def try_run(program, row, first):
-    """Tries a run of `gqlparse`; the program starts if so many requests are granted."""
+    """Tries a run of `gqlparse`; the program starts if the first `first` allocations succeed."""
     is_text, granted, seen = "\n<" in row, first, set()
     ends = {ended_of(row), OUTSIDE, INSIDE} if is_text else {ended_of(row), OUTSIDE}
     while ended_of(row) not in seen:
@@ -105,7 +105,7 @@ def try_runs(program):
     first = next(granted for granted in range(1000) if run_refused(program, "$\n= 2", granted)[0] == 2)
     for row in rows:
         try_run(program, row, first)
-    print(f"little memory: {len(rows)} runs of gqlparse, whole or refused at each request")
+    print(f"little memory: {len(rows)} runs of gqlparse, whole or with each allocation failing")
 
 
 try_check(os.path.realpath(sys.argv[1]))

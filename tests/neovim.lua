@@ -13,7 +13,7 @@ local function stop(text)
   vim.cmd("cquit 1")
 end
 
--- Says what was found, and stops where it isn't what was to be found.
+-- Says what was found, and stops if it isn't what was to be found.
 local function judge(what, found, wanted)
   if not vim.deep_equal(found, wanted) then
     stop(what .. ": " .. vim.inspect(found) .. ", and not " .. vim.inspect(wanted))
@@ -34,7 +34,7 @@ local function type_keys(keys)
   vim.api.nvim_feedkeys(keys, "xt", false)
 end
 
--- Waits until the server has told of the text as it is now.
+-- Waits until the server has reported on the text as it is now.
 local function await_told(what)
   await("diagnostics of " .. what, function()
     return published.version == vim.lsp.util.buf_versions[buffer]
@@ -109,7 +109,7 @@ judge("opened", lines(), OPENED)
 await_told("the opened text")
 judge("diagnostics", shown(), {})
 
--- `()` behind the last field. In UTF-8 `é` takes 2, `日` 3 and `😀` 4 bytes, in UTF-16 the emoji takes 2 units.
+-- `()` after the last field. In UTF-8 `é` takes 2, `日` 3 and `😀` 4 bytes, in UTF-16 the emoji takes 2 units.
 type_keys("0f}f}i()<Esc>")
 judge("typed", lines(), 'query A {a(note: "é日😀")} query B {b()}')
 await_told("a mistake")

@@ -1,6 +1,6 @@
 #!/bin/bash
 # A real editor with the built language server: tests/neovim.sh GQL [NEOVIM], where GQL is crates/gql/out/gql, and NEOVIM is 0.7 or
-# later. Neovim's own client opens a file, types mistakes behind non-ASCII text, sees their diagnostics, takes the quick fix, and lays
+# later. Neovim's own client opens a file, types mistakes after non-ASCII text, sees their diagnostics, takes the quick fix, and lays
 # the file out, once with columns in UTF-16 and once in UTF-8. Each step is printed; the status is 0 only if all hold.
 set -euo pipefail
 if [ $# -lt 1 ]; then

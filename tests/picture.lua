@@ -1,4 +1,4 @@
--- What tests/picture.py lets Neovim do: it opens the file, and prints its screen once the server has told of two mistakes.
+-- What tests/picture.py lets Neovim do: it opens the file, and prints its screen once the server has reported two mistakes.
 local function settings()
   vim.o.columns, vim.o.lines = 84, 15
   vim.o.number, vim.o.laststatus, vim.o.showmode, vim.o.ruler = true, 0, false, false

@@ -48,7 +48,7 @@ def span(column, row, kind, text):
 
 
 def line(row, text):
-    """A line of the screen: its number, the code, and what is told behind it."""
+    """A line of the screen: its number, the code, and what is reported after it."""
     front, text = text[:6], text[6:]
     code, told = re.fullmatch(r"(.*?)(\s+■.*)?", text, re.S).groups()
     pieces, column, place = [span(0, row, "told" if front.strip().startswith("E") else "number", front)], 6, 0

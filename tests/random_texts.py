@@ -16,15 +16,15 @@ Random values are written by a writer and read by a model of their own: of each,
 tree is that of the model, and so it is once the text is printed, minified or formatted.
 
 Last, programs with a mistake are tried: each has to be found. One line is printed with how many there were of which
-kind, and then the first text that doesn't hold, with both answers. The status is 0 where all is as it has to be."""
+kind, and then the first text that doesn't hold, with both answers. The status is 0 if all is as it has to be."""
 import functools, itertools, json, os, re, subprocess, sys, tempfile
 from pathlib import Path
 
 GRAMMARS = Path(__file__).resolve().parent / "grammars"
 SEED, COUNT = 20261123, 1000
-# How many of the first 2,000 texts of that seed are accepted, break a rule, and are refused: the same texts are made.
+# How many of the first 2,000 texts of that seed are accepted, break a rule, and are rejected: the same texts are made.
 KNOWN = {"query": [1053, 125, 822], "schema": [1076, 67, 857]}
-# So many texts are tried at once.
+# How many texts are tried at once.
 CHUNK = 500
 
 
@@ -37,7 +37,7 @@ class Random:
         self.state = seed * 0x9E37_79B9_7F4A_7C15 & 0xFFFF_FFFF_FFFF_FFFF | 1
 
     def below(self, end):
-        """A number below this one; 0 where there is none."""
+        """A number below this one; 0 if there is none."""
         state = self.state
         state ^= state << 13 & 0xFFFF_FFFF_FFFF_FFFF
         state ^= state >> 7
@@ -80,7 +80,7 @@ class Grammar:
             self.rules[rule] = [[symbol(word) for word in choice.split(" ")][::-1] for choice in choices.split(" | ")]
 
     def pieces(self, random, rule, growth):
-        """The pieces of one text of this rule, which grows in so many steps and then is only brought to its end."""
+        """The pieces of one text of this rule, which grows in `growth` steps and then is only brought to its end."""
         pieces, left = [], [(rule, ONCE)]
         for step in itertools.count():
             if not left:
@@ -219,7 +219,7 @@ class Program:
         return self.asked(words, tuple(texts))
 
     def check(self, texts, limits=None):
-        """The first finding of each text; None where it is good."""
+        """The first finding of each text; None if it is good."""
         words = "check --executable --format json" + (f" --limits {limits}" if limits else "")
         ran, _ = self.over_all(words, texts)
         found = {}
@@ -304,7 +304,7 @@ def agrees(answer, finding):
 
 def kind_of(finding):
     """What became of a text by the first finding of its check: 0 if it is accepted, 1 if it breaks a rule for
-    documents, 2 if it is refused."""
+    documents, 2 if it is rejected."""
     if finding is None:
         return 0
     return 2 if finding["status"] in ("SYNTAX", "RECURSION_LIMIT_EXCEEDED") else 1
@@ -320,7 +320,7 @@ def is_same_within(answer, narrow):
 
 
 def is_anew(answer, written):
-    """Whether a text is written anew if it is good, and has the error of its tree otherwise. A request of fragments
+    """Whether a text is rewritten if it is good, and has the error of its tree otherwise. A request of fragments
     alone has no tree, but is good."""
     status, _, err = written
     has_no_operation = answer[2].endswith(b": document does not contain an operation\n")
@@ -385,7 +385,7 @@ class Trial:
         found = program.check(texts)
         hold("the check differs", every, self.answers, found, agrees)
         hold("the check within limits differs", every, self.answers, program.check(texts, ALL), agrees)
-        wrong = "a text of the grammar is refused"
+        wrong = "a text of the grammar is rejected"
         hold(wrong, every, self.meant, found, lambda meant, it: not meant or kind_of(it) < 2)
         narrow = program.tree(texts, NARROW, places=True)
         hold("the check within narrow limits differs", every, narrow, program.check(texts, NARROW), agrees)
@@ -407,7 +407,7 @@ class Trial:
 
     def check_written(self, name, answers, again=None):
         """What a command writes has the same tree, is written so again if that is asked, and is formatted unless it is
-        minified. Returns the numbers of the texts that are written anew, and what they became."""
+        minified. Returns the numbers of the texts that are rewritten, and what they became."""
         hold(f"{name} differs", self.every, self.answers, answers, is_anew)
         numbers = [i for i in self.every if answers[i][0] == 0]
         texts = [answers[i][1] for i in numbers]
@@ -435,7 +435,7 @@ class Trial:
 
 
 def check_texts(program, source, count):
-    """How many of so many texts are accepted, break a rule, and are refused, and what is wrong with the first that
+    """How many of `count` texts are accepted, break a rule, and are rejected, and what is wrong with the first that
     doesn't hold."""
     tally = [0, 0, 0]
     for start in range(0, count, CHUNK):
@@ -673,7 +673,7 @@ FORGOTTEN = ["\\", '"', "$", "-", "[]", "{}", "😀"]
 
 
 def is_found(program, seed, count):
-    """Whether some of so many texts don't hold, the first of them if possible."""
+    """Whether some of `count` texts don't hold, the first of them if possible."""
     steps = [step for step in (20, 60, 200) if step < count]
     return any(check_texts(program, Source(program.language, seed), step)[1] for step in [*steps, count])
 
@@ -702,7 +702,7 @@ def run(path, seed, count):
     programs, said, wrong = [Program(path, "query"), Program(path, "schema")], [], []
     for program, name in zip(programs, ("requests", "schema files")):
         tally, failure = check_texts(program, Source(program.language, seed), count)
-        said.append("{}: {} accepted, {} broke a rule, {} refused".format(name, *tally))
+        said.append("{}: {} accepted, {} broke a rule, {} rejected".format(name, *tally))
         wrong += [failure] if failure else []
         wrong += [] if are_known(program) else [f"{name}: those of seed {SEED} are of other kinds than are known"]
     source = Values(seed)

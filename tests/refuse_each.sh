@@ -1,18 +1,18 @@
 #!/bin/sh
-# Has each request for memory refused in turn, in the calls of crates/*/data/refused.
+# Has each allocation fail in turn, in the calls of crates/*/data/refused.
 #
 #   tests/refuse_each.sh [FIRST [LAST]]
 #
-# A first run refuses none. Then for N from FIRST (1) to LAST, or until three runs in turn had no row out of memory, the Nth request
-# of each row is refused, by `rt try --fail-alloc`: without any proof, compiled with checks. Each row must then answer as it says,
-# or report that memory was refused. A run takes two minutes, all of them hours; FIRST and LAST choose a part.
+# In a first run none fails. Then for N from FIRST (1) to LAST, or until three runs in turn had no row out of memory, the Nth
+# allocation of each row fails, by `rt try --fail-alloc`: without any proof, compiled with checks. Each row must then answer as it says,
+# or report that memory ran out. A run takes two minutes, all of them hours; FIRST and LAST choose a part.
 set -eu
 cd "$(dirname -- "$(readlink -f -- "$0")")/../crates"
 made=$(mktemp -d)
 log=$made/log
 trap 'rm -rf "$made"' EXIT
 
-# Refuses the request of the given number in each row of $cases by $program. Each must end well, and answer or be out of memory.
+# Has the allocation of the given number fail in each row of $cases by $program. Each must end well, and answer or be out of memory.
 refuse() {
     (cd "$program" && rt try --fail-alloc "$1" --cases "$cases" -- once) >"$log" 2>&1 || true
     rows=$(ls "$cases" | wc -l)
@@ -25,7 +25,7 @@ refuse() {
     fi
 }
 
-# What stands on standard input for a row is the name of its table, and the row.
+# Standard input for a row is the name of its table, and the row.
 for tables in */data/refused; do
     program=${tables%%/*}
     cases=$made/$program

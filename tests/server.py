@@ -3,7 +3,7 @@
 
 tests/server.py quick [NAME..] tries the dialogues of these names, or all, at once and without a proof or a built program, by `rt try`.
 
-tests/server.py refused N.. tries all of them so where the Nth request for memory is refused, for each of these N: minutes for each.
+tests/server.py refused N.. tries all of them with the Nth allocation failing, for each of these N: minutes for each.
 
 GQL is the program, as crates/gql/out/gql. Without a PART all are tried:
   dialogues  each file of tests/dialogues: message by message, byte by byte, at once, and if its name begins with cut_ in two pieces, cut
@@ -11,12 +11,12 @@ GQL is the program, as crates/gql/out/gql. Without a PART all are tried:
   pieces     the same in random pieces (SEED=N in the environment for others)
   garbage    random bytes, dialogues with random damage, and contents that are no UTF-8: the server goes on, and ends by itself
   limits     messages of 64 MiB, and one byte more
-  alone      texts after random changes: what is told of them is what a new server tells of the whole text
+  alone      texts after random changes: what is reported of them is what a new server reports of the whole text
   changes    100,000 changes of a text of 100 KB (CHANGES=N for others), and what memory the server takes meanwhile
   closed     200 texts of 1 MB opened and closed: nothing is kept of them
   times      from a key stroke to its diagnostics, for texts of 100 KB and 2 MB with one mistake
   costs      what an outline and many changes cost in key strokes, and that an answer doesn't wait for later ones
-The status is 0 where all is as it has to be. Times are printed, and judged by the reader."""
+The status is 0 if all is as it has to be. Times are printed, and judged by the reader."""
 import fcntl, json, os, queue, random, re, statistics, struct, subprocess, sys, tempfile, termios, threading, time
 from pathlib import Path
 
@@ -78,7 +78,7 @@ class Server:
             left = fcntl.ioctl(pipe, termios.FIONREAD, struct.pack("i", 0))
 
     def next(self):
-        """The next message; None where the output has ended."""
+        """The next message; None if the output has ended."""
         try:
             found = self.read.get(timeout=PATIENCE)
         except queue.Empty:
@@ -357,7 +357,7 @@ def quick(names):
 
 
 def is_refused(found, wanted):
-    """Whether a server whose memory ran out once wrote this in place of that: each request has an answer, where one may be an error
+    """Whether a server whose memory ran out once wrote this in place of that: each request has an answer, of which one may be an error
     that says so, with the id or, if the content wasn't read, without; and once the session runs it is logged once."""
     (written, status), (expected, ended) = found, wanted
     if not all(isinstance(each, dict) for each in written) or status not in (ended, 1):
@@ -375,7 +375,7 @@ def is_refused(found, wanted):
 
 
 def refused(numbers):
-    """Plays all dialogues for each of these numbers N, where the Nth request for memory of each server is refused. Prints those where a
+    """Plays all dialogues for each of these numbers N, with the Nth allocation of each server failing. Prints those where a
     request has no answer, or it isn't logged once. Returns how many these are."""
     wrong = 0
     for nth in numbers:
@@ -388,7 +388,7 @@ def refused(numbers):
                 wrong += 1
                 print(f"tests/dialogues/{name}, request {nth}:\n  expected: {json.dumps(wanted, ensure_ascii=False)}\n"
                       f"  found:    {json.dumps(found, ensure_ascii=False)}")
-        print(f"request {nth} refused: of {len(played)} dialogues {len(met)} differ, {lost} are lost whole")
+        print(f"allocation {nth} failed: of {len(played)} dialogues {len(met)} differ, {lost} are lost whole")
     return wrong
 
 
@@ -459,7 +459,7 @@ def try_limits(program):
 # ---- Texts
 
 def request_text(size, mistakes=1):
-    """Operations of so many bytes in all, with characters of one to four bytes, and a mistake in the middle."""
+    """Operations of `size` bytes in all, with characters of one to four bytes, and a mistake in the middle."""
     chance = random.Random(SEED)
     parts, length, number = [], 0, 0
     while length < size:
@@ -523,7 +523,7 @@ class Typed:
 
 
 def try_alone(program, rounds=40):
-    """What is told of a text is what a new server tells of it."""
+    """What is reported of a text is what a new server reports of it."""
     chance = random.Random(SEED)
     for number in range(rounds):
         typed = Typed(request_text(chance.choice([0, 300, 3000]), number % 2), chance)
@@ -541,11 +541,11 @@ def try_alone(program, rounds=40):
         alone = server.told()
         server.end()
         judge(f"alone {number} (SEED={SEED})", "at the end", told, alone)
-    print(f"alone: after {rounds} times 58 random changes a new server tells the same")
+    print(f"alone: after {rounds} times 58 random changes a new server reports the same")
 
 
 def try_changes(program):
-    """What memory the server takes while a text changes, and that it tells the same in the end as a new one."""
+    """What memory the server takes while a text changes, and that in the end it reports the same as a new one."""
     size = 100_000
     chance = random.Random(SEED)
     text = request_text(size)

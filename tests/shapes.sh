@@ -1,7 +1,7 @@
 #!/bin/sh
 # Texts of one shape that grow, and how long the parsers take over them.
 #
-#   tests/shapes.sh SHAPE COUNT    prints the text of a shape with so many parts
+#   tests/shapes.sh SHAPE COUNT    prints the text of a shape with this many parts
 #   tests/shapes.sh                has `conformance_tools bench` read each shape with 100,000 and with 200,000 parts, and
 #                                  prints a line for each: the shape, both times in milliseconds, and the second over the first
 #
@@ -13,8 +13,8 @@
 set -eu
 program=$(dirname -- "$(readlink -f -- "$0")")/../crates/conformance_tools/out/conformance_tools
 
-# The allocator keeps its memory from one round to the next. Else, where a list grows beyond 32 MB, each round takes it
-# from the kernel anew, and more than half of the time goes there.
+# The allocator keeps its memory from one round to the next. Else, if a list grows beyond 32 MB, each round takes it
+# from the kernel again, and more than half of the time goes there.
 export GLIBC_TUNABLES=glibc.malloc.mmap_threshold=4294967296:glibc.malloc.trim_threshold=8589934592
 
 # Each line: a shape, what reads it, and the text before its parts, each part, and the text after them. In a part %
@@ -57,7 +57,7 @@ locations of a directive;schema;directive @d on;|FIELD ;
 SHAPES
 }
 
-# The text of a line with so many parts.
+# The text of a line with this many parts.
 text() {
     line=$1 awk -v count="$2" 'BEGIN {
         split(ENVIRON["line"], parts, ";")
@@ -71,7 +71,7 @@ text() {
     }'
 }
 
-# The nanoseconds of the fastest round over the text of a line with so many parts.
+# The nanoseconds of the fastest round over the text of a line with this many parts.
 fastest() {
     reader=${1#*;}
     text "$1" "$2" | "$program" bench "${reader%%;*}" | awk '

@@ -4,9 +4,9 @@
 tests/tables.py quick [TABLE..] judges them without a proof or a built program, by those that `rt try` compiles.
 
 GQL and GQLPARSE are the programs, as crates/gql/out/gql and crates/gqlparse/out/gqlparse. Without a TABLE all are judged. Each row that
-doesn't hold is printed with its file and line, what was expected and what was found; and each table that hasn't as many rows as
-`tests/tables/counts` says. The status is 0 where all rows hold. The notation of the rows is said at crates/rows/src/lib.rt;
-what each call shows, at its function here."""
+doesn't hold is printed with its file and line, what was expected and what was found; and each table whose number of rows differs from
+`tests/tables/counts`. The status is 0 if all rows hold. The notation of the rows is described in crates/rows/src/lib.rt;
+what each call shows, at its function in tests/told.py."""
 import sys, tempfile
 from concurrent.futures import ProcessPoolExecutor
 from pathlib import Path
@@ -23,7 +23,7 @@ AT_ONCE = 10
 
 
 class Row:
-    """A row of a table: where it stands, its text, and what is to be found of it."""
+    """A row of a table: where it is, its text, and what is expected of it."""
 
     def __init__(self, file, line, call, text, wanted):
         self.file, self.line, self.call, self.text, self.wanted = file, line, call, text, wanted

@@ -1,4 +1,4 @@
-"""Runs a program whose system calls are watched, and made to fail where a test says so: on Linux with x86-64, by ptrace.
+"""Runs a program whose system calls are watched, and made to fail if a test says so: on Linux with x86-64, by ptrace.
 
 The program is stopped before each call. A call may get another length, as `read at most 2 bytes`, or fail with an error without being
 made. So a disk that is full, a file that nobody may read, a pipe that breaks in mid-stream, and memory that ends are tried without a
@@ -36,7 +36,7 @@ class Faults:
         self.written = []
 
     def fault(self, process, registers):
-        """The error with which this call is to fail; None where it is made, maybe with another length."""
+        """The error with which this call is to fail; None if it is made, maybe with another length."""
         call, first = registers.call, registers.rdi
         if call == OPEN:
             return self.fault_of_open(process, registers)
@@ -106,7 +106,7 @@ def begin(words, folder, streams, environment):
 
 
 def follow(process, faults):
-    """Watches a program to its end, and returns its status; None where a signal ended it."""
+    """Watches a program to its end, and returns its status; None if a signal ended it."""
     _, status = os.waitpid(process, 0)
     if not os.WIFSTOPPED(status):
         raise OSError("the program doesn't start, or may not be traced")

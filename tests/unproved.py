@@ -3,12 +3,12 @@ import os, shutil, subprocess, tempfile, time
 from pathlib import Path
 
 CRATES = Path(__file__).resolve().parent.parent / "crates"
-# `rt try` runs the program for each of so many inputs, so that there is time to copy it.
+# `rt try` runs the program for each of this many inputs, so that there is time to copy it.
 INPUTS = 40
 
 
 def compiled(crate, file):
-    """Copies the program of this crate into a file. Returns whether it could; what `rt try` says is printed where it couldn't."""
+    """Copies the program of this crate into a file. Returns whether it could; what `rt try` says is printed if it couldn't."""
     with tempfile.TemporaryDirectory() as folder:
         inputs, made = Path(folder, "inputs"), Path(folder, "made")
         inputs.mkdir()

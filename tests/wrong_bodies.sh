@@ -1,5 +1,5 @@
 #!/bin/sh
-# Sees that the prover refuses wrong bodies, and prints at what it refuses each:
+# Sees that the prover rejects wrong bodies, and prints at what it rejects each:
 #
 #   tests/wrong_bodies.sh [CRATE..]
 #
@@ -8,7 +8,7 @@
 # named or of all, in a copy of `crates`, over what earlier checks on this machine kept. A crate whose libraries aren't
 # built waits for these first.
 #
-# The status is 0 only where each wrong body is refused: an edit that can't be applied counts as one that isn't. Run it for
+# The status is 0 only if each wrong body is rejected: an edit that can't be applied counts as one that isn't. Run it for
 # a crate when a contract, a definition or a proof of it has changed, and for all before a release.
 set -eu
 root=$(dirname -- "$(readlink -f -- "$0")")/..
@@ -41,6 +41,6 @@ done
 cd "$copy"
 status=0
 rt must-fail "$@" >said 2>&1 || status=$?
-# What is said of libraries that are proved first is shown only where no wrong body was tried.
+# What is said of libraries that are proved first is shown only if no wrong body was tried.
 grep '^rt: .*must-fail' said || cat said
 exit "$status"
