@@ -6,7 +6,8 @@ GQL and GQLPARSE are the built programs, without them crates/gql/out/gql and cra
 
 - of a block that begins with `$ `: each such line; the lines after it are what it prints
 - of a block of sh: each line with a comment `# prints: TEXT`
-- of MESSAGES: `gql check --executable --query` with each text in a file; its messages follow it, up to `core:`
+- of MESSAGES: `gql check --executable --query` with each text in a file; its messages follow it, up to `core:`. If the
+  graphql-core that it names is here, tests/messages.py has to print the whole page
 
 NOT_RUN names each other block of a page, and each other line of a block of sh that has a command to run. A link between
 pages has to lead to a file and to a heading in it. Prints what is wrong; the status is 1 if anything is."""
@@ -155,6 +156,20 @@ def check_messages(folder):
     return wrong
 
 
+def check_made():
+    """What is wrong with MESSAGES as tests/messages.py makes it, if the graphql-core that it names is here."""
+    page = (ROOT / "docs/MESSAGES.md").read_text()
+    try:
+        import graphql
+    except ImportError:
+        return
+    if f"graphql-core {graphql.version}," not in page:
+        return
+    made = subprocess.run([sys.executable, "-B", ROOT / "tests/messages.py"], stdout=subprocess.PIPE)
+    if made.stdout.decode() != page:
+        yield "isn't what tests/messages.py prints"
+
+
 def headings(page):
     """The names by which links lead to the headings of a page."""
     text = re.sub(r"^```.*?^```$", "", page.read_text(), flags=re.M | re.S)
@@ -177,7 +192,7 @@ def check_page(page, programs):
             Path(folder, called).symlink_to(program)
         wrong, left = check_commands(page, folder)
         if page == "docs/MESSAGES.md":
-            wrong += check_messages(folder)
+            wrong += [*check_messages(folder), *check_made()]
     return [*wrong, *check_named(page, left), *check_links(ROOT / page)]
 
 
