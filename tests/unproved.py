@@ -3,7 +3,7 @@ import os, shutil, subprocess, tempfile, time
 from pathlib import Path
 
 CRATES = Path(__file__).resolve().parent.parent / "crates"
-# `rt try` runs the program for each of this many inputs, so that there is time to copy it.
+# How many inputs `rt try` runs the program for, so that there is time to copy it.
 INPUTS = 40
 
 
