@@ -9,8 +9,8 @@
 # Both libraries show what the header declares, and nothing else. With the word --is-built it makes nothing, and its status
 # is 0 if there is no library to make.
 #
-# The first call proves and compiles the crate and all below it, which takes as long as README says of the programs; later calls do nothing until a
-# source changes. Needs the kit (`rt`) and a C compiler (`cc`, with `ar` and `objcopy`). The callers need neither the kit
+# The first call proves and compiles the crate and all below it (README.md, beside this file, says how long that takes); later calls
+# do nothing until a source changes. Needs the kit (`rt`) and a C compiler (`cc`, with `ar` and `objcopy`). The callers need neither the kit
 # nor this repository.
 set -eu
 here=$(dirname -- "$(readlink -f -- "$0")")

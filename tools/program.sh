@@ -59,7 +59,7 @@ run_program() {
     program=$root/crates/$name/out/$name
     shift 2
     if ! is_built "$name"; then
-        echo "$name: for an answer in half a minute, without proofs: cd crates/$name && rt try -- $sample" >&2
+        echo "$name: for an earlier answer, without proofs: cd crates/$name && rt try -- $sample <FILE" >&2
         if ! build "$name"; then
             echo "$name: cannot build the program" >&2
             exit 2
