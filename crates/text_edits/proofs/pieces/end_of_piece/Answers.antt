@@ -1,5 +1,4 @@
-use Rattle.std.proofs.Common.{◌≡◌, ◌+◌, ◌-◌, ◌<◌, ◌∙◌, length, drop, take, get_or, sym, ap, arith, length-drop}
-use Rattle.std.proofs.lemmas.List.{get_or-drop}
+use Rattle.std.proofs.Common.{◌+◌}
 use Rattle.text_edits.proofs.InPieces.{piece_end, first_feed}
 use Rattle.text_edits.proofs.pieces.end_of_piece.Goals as goal
 

@@ -1,7 +1,7 @@
 use Rattle.std.proofs.Common.{◌≡◌, ℕ, max, List, ◌++◌, string_bytes, ap, ap₂, ◌∙◌, arith}
 use Rattle.std.proofs.lemmas.Result.{on_ok_weaker}
 use Rattle.std.proofs.lemmas.Str.{IsUtf8-string_bytes}
-use Rattle.std.specs.Str.{chars, IsUtf8}
+use Rattle.std.specs.Str.{chars}
 use Rattle.text_edits.specs.Edits.{replaced, before, from}
 use Rattle.text_edits.specs.Positions.{offset_of}
 use Rattle.text_edits.proofs.document.Document.apply.Goals as goal

@@ -1,14 +1,11 @@
-use Rattle.std.proofs.Common.{rules, ◌≡◌, ℕ, suc, ◌+◌, ◌-◌, ◌<◌, ◌≤◌, ◌++◌, All, List, [], OnOk, Result, length, drop, get_or, take, set, min, max, refl, string_bytes, sym, ap, ap₂, ◌∙◌, subst, arith}
+use Rattle.std.proofs.Common.{◌≡◌, ℕ, suc, ◌-◌, ◌<◌, ◌≤◌, ◌++◌, All, List, [], length, drop, get_or, take, set, min, max, refl, sym, ap, ap₂, ◌∙◌, subst, arith}
 use Rattle.std.proofs.lemmas.List.{get_or_default, take_all}
 use Rattle.std.proofs.lemmas.List.Elements.{All-set}
 use Rattle.std.proofs.lemmas.Result.{on_ok_weaker}
 use Rattle.std.specs.List.{concat, sum_by}
 use Rattle.std.specs.Str.{chars}
 use Rattle.text_edits.specs.declared.Encoding.{Encoding}
-use Rattle.text_edits.specs.declared.Position.{Position}
-use Rattle.text_edits.specs.Edits.{replaced}
 use Rattle.text_edits.specs.Pieces.{IsPiece, IsFoundAt, lines_ended}
-use Rattle.text_edits.specs.Positions.{offset_of}
 use Rattle.text_edits.proofs.InPieces.{Changed, Whole, position, whole_front, changed_rest, changed_front, changed_piece, changed_is, kept_piece, set_piece, around_piece, cut_pieces, spread, rest_of}
 use Rattle.text_edits.proofs.pieces.Pieces.apply.Goals.{After-self-1}
 use Rattle.text_edits.proofs.pieces.Pieces.apply.Goals as goal
