@@ -6,7 +6,7 @@ use std::mem;
 use text_edits::{Position, Range};
 
 /// A text of JSON that is being written. Once memory has run out, nothing more is written, and [`JsonWriter::finish`] fails. It is
-/// not the kit's writer, since most of an outline are ranges, which are written here in few pieces.
+/// not the kit's writer, since an outline is mostly ranges, which are written here in few pieces.
 #[derive(Drop)]
 pub struct JsonWriter {
     json: String,
@@ -14,6 +14,9 @@ pub struct JsonWriter {
     needs_comma: bool,
     // The words of the text that is written next.
     said: String,
+    // The range that was written last, and its text: most symbols of an outline have the same range twice.
+    range: Option<Range>,
+    range_text: String,
     has_failed: bool,
 }
 
@@ -24,6 +27,8 @@ impl JsonWriter {
             json: String::new(alloc),
             needs_comma: false,
             said: String::new(alloc),
+            range: None,
+            range_text: String::new(alloc),
             has_failed: false,
         }
     }
@@ -45,6 +50,11 @@ impl JsonWriter {
         Ok(json.into_bytes())
     }
 
+    /// Takes memory for so many bytes more at once, if there is as much.
+    pub fn reserve(&mut self, bytes: usize) {
+        let _ = self.json.reserve(bytes);
+    }
+
     // Remembers whether memory ran out.
     fn note(&mut self, written: Result<(), AllocError>) {
         self.has_failed = self.has_failed || written.is_err();
@@ -53,8 +63,8 @@ impl JsonWriter {
     // Writes a piece of the text. Inlined, so that a piece of a length that is known is copied at once.
     #[inline(always)]
     fn push(&mut self, piece: &str) {
-        if !self.has_failed {
-            self.has_failed = self.json.push_str(piece).is_err();
+        if !self.has_failed && self.json.push_str(piece).is_err() {
+            self.has_failed = true;
         }
     }
 
@@ -89,6 +99,20 @@ impl JsonWriter {
 
     pub fn end_list(&mut self) {
         self.push("]");
+        self.needs_comma = true;
+    }
+
+    /// Writes a piece of JSON as it is, after which a value comes.
+    #[inline(always)]
+    pub fn lead(&mut self, piece: &'static str) {
+        self.push(piece);
+        self.needs_comma = false;
+    }
+
+    /// Writes the end of lists and objects.
+    #[inline(always)]
+    pub fn end(&mut self, piece: &'static str) {
+        self.push(piece);
         self.needs_comma = true;
     }
 
@@ -135,7 +159,10 @@ impl JsonWriter {
     }
 
     pub fn size(&mut self, number: usize) {
-        self.value(Buffer::new().format(number));
+        self.begin("");
+        let written = push_number(&mut self.json, number);
+        self.note(written);
+        self.needs_comma = true;
     }
 
     pub fn boolean(&mut self, value: bool) {
@@ -206,20 +233,52 @@ impl JsonWriter {
     /// Writes a member that is a range of a text.
     pub fn range_member(&mut self, name: &'static str, range: Range) {
         self.name(name);
-        self.push("{\"start\":{\"line\":");
-        self.push_position(range.start);
-        self.push("},\"end\":{\"line\":");
-        self.push_position(range.end);
-        self.push("}}");
-        self.needs_comma = true;
+        self.range(range);
     }
 
-    // Writes a position from the number of its line to that of its character.
-    fn push_position(&mut self, position: Position) {
-        self.push(Buffer::new().format(position.line));
-        self.push(",\"character\":");
-        self.push(Buffer::new().format(position.character));
+    /// Writes a range of a text.
+    pub fn range(&mut self, range: Range) {
+        if self.range != Some(range) {
+            self.range = Some(range);
+            self.range_text.clear();
+            let written = push_range(&mut self.range_text, range);
+            self.note(written);
+        }
+        let written = self.json.push_str(self.range_text.as_str());
+        self.note(written);
+        self.needs_comma = true;
     }
+}
+
+// Adds a range to a text of JSON.
+fn push_range(json: &mut String, range: Range) -> Result<(), AllocError> {
+    json.push_str("{\"start\":{\"line\":")?;
+    push_position(json, range.start)?;
+    json.push_str("},\"end\":{\"line\":")?;
+    push_position(json, range.end)?;
+    json.push_str("}}")
+}
+
+// Adds a position from the number of its line to that of its character.
+fn push_position(json: &mut String, position: Position) -> Result<(), AllocError> {
+    push_number(json, position.line)?;
+    json.push_str(",\"character\":")?;
+    push_number(json, position.character)
+}
+
+// Adds a number. Most have one digit or two.
+fn push_number(json: &mut String, number: usize) -> Result<(), AllocError> {
+    if number >= 100 {
+        return json.push_str(Buffer::new().format(number));
+    }
+    if number >= 10 {
+        json.push(last_digit(number / 10))?;
+    }
+    json.push(last_digit(number))
+}
+
+fn last_digit(number: usize) -> char {
+    (b'0' + (number % 10) as u8) as char
 }
 
 // Whether this byte of a text is a character that JSON escapes (RFC 8259, section 7).
