@@ -19,12 +19,18 @@ const NEAR: usize = 3;
 pub struct Places<'a> {
     text: &'a str,
     encoding: Encoding,
-    // Where lines begin.
-    starts: Vec<usize>,
+    lines: Vec<Line>,
     // How many units of the encoding are before the bytes 0, STEP, 2 * STEP ..
     marks: Vec<usize>,
     // The line on which the last range began.
     near: usize,
+}
+
+#[derive(Clone, Copy)]
+struct Line {
+    start: usize,
+    // Whether each of its bytes is one unit, and it doesn't end by a `\r\n`.
+    is_plain: bool,
 }
 
 impl<'a> Places<'a> {
@@ -32,25 +38,50 @@ impl<'a> Places<'a> {
     ///
     /// It fails only if memory runs out.
     pub fn new(alloc: Global, encoding: Encoding, text: &'a str) -> Result<Places<'a>, AllocError> {
-        Ok(Places {
+        let mut places = Places {
             text,
             encoding,
-            starts: starts_of(alloc, text.as_bytes())?,
+            lines: Vec::new(alloc),
             marks: marks_of(alloc, encoding, text.as_bytes())?,
             near: 0,
-        })
+        };
+        places.find_lines()?;
+        Ok(places)
+    }
+
+    // Finds where lines begin.
+    fn find_lines(&mut self) -> Result<(), AllocError> {
+        let bytes = self.text.as_bytes();
+        let mut start = 0usize;
+        let mut before = 0usize;
+        for at in memchr2_iter(b'\n', b'\r', bytes) {
+            let next = at.saturating_add(1);
+            let is_feed = bytes.get(at) == Some(&b'\n');
+            if is_feed || bytes.get(next) != Some(&b'\n') {
+                let units = self.units_before(next);
+                let is_even = units.saturating_sub(before) == next.saturating_sub(start);
+                let is_plain = is_even && !(is_feed && at > 0 && bytes.get(at - 1) == Some(&b'\r'));
+                self.lines.push(Line { start, is_plain })?;
+                start = next;
+                before = units;
+            }
+        }
+        let is_plain = false;
+        self.lines.push(Line { start, is_plain })?;
+        Ok(())
     }
 
     /// The position of an offset in bytes. One beyond the end of the text is its end, one inside of a character is where the character
     /// begins, and one inside of a `\r\n` is where that begins.
     pub fn position_of(&self, offset: usize) -> Position {
-        let offset = self.character_at(offset);
+        let offset = self.text.floor_char_boundary(offset);
         let line = self.line_of(offset);
-        let start = self.starts.get(line).copied().unwrap_or(0);
-        Position {
-            line,
-            character: self.units_before(offset).saturating_sub(self.units_before(start)),
-        }
+        let character = match self.lines.get(line) {
+            Some(Line { start, is_plain }) if *is_plain => offset.saturating_sub(*start),
+            Some(Line { start, .. }) => self.units_between(*start, offset),
+            None => 0,
+        };
+        Position { line, character }
     }
 
     /// The range between two offsets, found soonest if it begins where the last one did, or soon after that.
@@ -63,14 +94,15 @@ impl<'a> Places<'a> {
         }
     }
 
-    // Where the character, or the `\r\n`, begins that an offset is in.
-    fn character_at(&self, offset: usize) -> usize {
-        let offset = self.text.floor_char_boundary(offset);
+    // How many units are between a line's start and an offset, or a `\r\n` that it is inside of.
+    fn units_between(&self, start: usize, offset: usize) -> usize {
         let bytes = self.text.as_bytes();
-        if offset > 0 && bytes.get(offset) == Some(&b'\n') && bytes.get(offset - 1) == Some(&b'\r') {
-            return offset - 1;
-        }
-        offset
+        let is_inside = offset > start
+            && bytes.get(offset) == Some(&b'\n')
+            && bytes.get(offset - 1) == Some(&b'\r');
+        let offset = offset.saturating_sub(usize::from(is_inside));
+        self.units_before(offset)
+            .saturating_sub(self.units_before(start))
     }
 
     // The line that an offset is on.
@@ -80,16 +112,16 @@ impl<'a> Places<'a> {
                 return line;
             }
         }
-        self.starts
-            .partition_point(|start| *start <= offset)
+        self.lines
+            .partition_point(|line| line.start <= offset)
             .saturating_sub(1)
     }
 
     // Whether an offset is on this line.
     fn is_on(&self, line: usize, offset: usize) -> bool {
-        let next = self.starts.get(line.saturating_add(1));
-        match (self.starts.get(line), next) {
-            (Some(start), Some(next)) => *start <= offset && offset < *next,
+        let next = self.lines.get(line.saturating_add(1));
+        match (self.lines.get(line), next) {
+            (Some(line), Some(next)) => line.start <= offset && offset < next.start,
             _ => false,
         }
     }
@@ -102,7 +134,10 @@ impl<'a> Places<'a> {
         let passed = offset % STEP;
         let units = match parts.get(index) {
             Some(part) if is_ascii(part) => passed,
-            _ => units_in(self.encoding, bytes.get(offset - passed..offset).unwrap_or(&[])),
+            _ => units_in(
+                self.encoding,
+                bytes.get(offset - passed..offset).unwrap_or(&[]),
+            ),
         };
         let before = self.marks.get(index).copied().unwrap_or(0);
         before.saturating_add(units)
@@ -114,19 +149,6 @@ pub const START: Position = Position {
     line: 0,
     character: 0,
 };
-
-// Where the lines of a text begin.
-fn starts_of(alloc: Global, bytes: &[u8]) -> Result<Vec<usize>, AllocError> {
-    let mut starts = Vec::new(alloc);
-    starts.push(0)?;
-    for at in memchr2_iter(b'\n', b'\r', bytes) {
-        let next = at.saturating_add(1);
-        if bytes.get(at) == Some(&b'\n') || bytes.get(next) != Some(&b'\n') {
-            starts.push(next)?;
-        }
-    }
-    Ok(starts)
-}
 
 // How many units are before each STEPth byte of a text.
 fn marks_of(alloc: Global, encoding: Encoding, bytes: &[u8]) -> Result<Vec<usize>, AllocError> {

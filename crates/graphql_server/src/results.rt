@@ -113,7 +113,12 @@ impl<'s> Asked<'s> {
                 end: position,
             };
             self.log_clipped(range, outbox);
-            write_selection(self, &mut places, self.offset_of(position), &mut outbox.json)?;
+            write_selection(
+                self,
+                &mut places,
+                self.offset_of(position),
+                &mut outbox.json,
+            )?;
         }
         outbox.json.end_list();
         Ok(())

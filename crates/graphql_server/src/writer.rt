@@ -17,6 +17,9 @@ pub struct JsonWriter {
     // The range that was written last, and its text: most symbols of an outline have the same range twice.
     range: Option<Range>,
     range_text: String,
+    // The line of the position that was written last, and the text of a position on it up to its character.
+    line: Option<usize>,
+    line_text: String,
     has_failed: bool,
 }
 
@@ -29,6 +32,8 @@ impl JsonWriter {
             said: String::new(alloc),
             range: None,
             range_text: String::new(alloc),
+            line: None,
+            line_text: String::new(alloc),
             has_failed: false,
         }
     }
@@ -69,6 +74,7 @@ impl JsonWriter {
     }
 
     // Begins a value or a member with this piece.
+    #[inline(always)]
     fn begin(&mut self, piece: &str) {
         if self.needs_comma {
             self.push(",");
@@ -240,30 +246,36 @@ impl JsonWriter {
     pub fn range(&mut self, range: Range) {
         if self.range != Some(range) {
             self.range = Some(range);
-            self.range_text.clear();
-            let written = push_range(&mut self.range_text, range);
+            let written = self.say_range(range);
             self.note(written);
         }
         let written = self.json.push_str(self.range_text.as_str());
         self.note(written);
         self.needs_comma = true;
     }
-}
 
-// Adds a range to a text of JSON.
-fn push_range(json: &mut String, range: Range) -> Result<(), AllocError> {
-    json.push_str("{\"start\":{\"line\":")?;
-    push_position(json, range.start)?;
-    json.push_str("},\"end\":{\"line\":")?;
-    push_position(json, range.end)?;
-    json.push_str("}}")
-}
+    // Makes the text of a range.
+    fn say_range(&mut self, range: Range) -> Result<(), AllocError> {
+        self.range_text.clear();
+        self.range_text.push_str("{\"start\":")?;
+        self.say_position(range.start)?;
+        self.range_text.push_str("},\"end\":")?;
+        self.say_position(range.end)?;
+        self.range_text.push_str("}}")
+    }
 
-// Adds a position from the number of its line to that of its character.
-fn push_position(json: &mut String, position: Position) -> Result<(), AllocError> {
-    push_number(json, position.line)?;
-    json.push_str(",\"character\":")?;
-    push_number(json, position.character)
+    // Adds a position to that text, up to its last brace.
+    fn say_position(&mut self, position: Position) -> Result<(), AllocError> {
+        if self.line != Some(position.line) {
+            self.line = Some(position.line);
+            self.line_text.clear();
+            self.line_text.push_str("{\"line\":")?;
+            push_number(&mut self.line_text, position.line)?;
+            self.line_text.push_str(",\"character\":")?;
+        }
+        self.range_text.push_str(self.line_text.as_str())?;
+        push_number(&mut self.range_text, position.character)
+    }
 }
 
 // Adds a number. Most have one digit or two.
