@@ -23,7 +23,7 @@ use text_edits::Range;
 /// It fails only if memory runs out.
 pub fn write_layout(
     asked: Asked<'_>,
-    places: &Places<'_>,
+    places: &mut Places<'_>,
     json: &mut JsonWriter,
 ) -> Result<(), AllocError> {
     let text = asked.text();
@@ -48,7 +48,7 @@ pub fn write_layout(
 pub fn write_layout_of(
     asked: Asked<'_>,
     structure: &Structure,
-    places: &Places<'_>,
+    places: &mut Places<'_>,
     range: Range,
     json: &mut JsonWriter,
 ) -> Result<(), AllocError> {
@@ -69,7 +69,7 @@ pub fn write_layout_of(
 fn write_definition(
     asked: Asked<'_>,
     language: Language,
-    places: &Places<'_>,
+    places: &mut Places<'_>,
     definition: Span,
     json: &mut JsonWriter,
 ) -> Result<(), AllocError> {
@@ -111,7 +111,7 @@ fn formatted(alloc: Global, language: Language, text: &str) -> Result<Option<Str
 // Writes the edits that change `old`, which stands at that offset of the text, into `new`.
 fn write_edits(
     alloc: Global,
-    places: &Places<'_>,
+    places: &mut Places<'_>,
     offset: usize,
     old: &str,
     new: &str,

@@ -13,7 +13,7 @@ use text_edits::Position;
 pub fn write_definition(
     asked: Asked<'_>,
     structure: &Structure,
-    places: &Places<'_>,
+    places: &mut Places<'_>,
     position: Position,
     json: &mut JsonWriter,
 ) {
@@ -32,7 +32,7 @@ pub fn write_definition(
 pub fn write_references(
     asked: Asked<'_>,
     structure: &Structure,
-    places: &Places<'_>,
+    places: &mut Places<'_>,
     position: Position,
     takes_definitions: bool,
     json: &mut JsonWriter,
@@ -50,7 +50,7 @@ pub fn write_references(
 }
 
 /// Writes where a part of the text is ("Location").
-pub fn write_span(asked: Asked<'_>, places: &Places<'_>, span: Span, json: &mut JsonWriter) {
+pub fn write_span(asked: Asked<'_>, places: &mut Places<'_>, span: Span, json: &mut JsonWriter) {
     let range = places.range_of(span.start, span.end);
     write_location(
         Location {
@@ -67,7 +67,7 @@ pub fn write_span(asked: Asked<'_>, places: &Places<'_>, span: Span, json: &mut 
 pub fn write_hover(
     asked: Asked<'_>,
     structure: &Structure,
-    places: &Places<'_>,
+    places: &mut Places<'_>,
     position: Position,
     json: &mut JsonWriter,
 ) -> Result<(), AllocError> {

@@ -7,15 +7,19 @@ use crate::writer::JsonWriter;
 use graphql_editor::{Span, Structure, Symbol, SymbolKind};
 use std::alloc::AllocError;
 
+// About how many bytes of the answer a symbol takes.
+const BYTES: usize = 256;
+
 /// Writes the symbols of a text for a client: each with those inside of it, or one after another if it doesn't show them so.
 ///
 /// It fails only if memory runs out.
 pub fn write_outline(
     asked: Asked<'_>,
     structure: &Structure,
-    places: &Places<'_>,
+    places: &mut Places<'_>,
     json: &mut JsonWriter,
 ) -> Result<(), AllocError> {
+    json.reserve(structure.symbols().len().saturating_mul(BYTES));
     json.begin_list();
     if asked.client.nests_symbols {
         write_nested(asked, structure.symbols(), places, json);
@@ -27,20 +31,32 @@ pub fn write_outline(
 }
 
 // Writes each symbol with those inside of it ("DocumentSymbol").
-fn write_nested(asked: Asked<'_>, symbols: &[Symbol], places: &Places<'_>, json: &mut JsonWriter) {
+fn write_nested(
+    asked: Asked<'_>,
+    symbols: &[Symbol],
+    places: &mut Places<'_>,
+    json: &mut JsonWriter,
+) {
     // How many symbols are open: the one that was met last, and those around it.
     let mut open = 0usize;
     for symbol in symbols {
         close_to(symbol.depth, open, json);
         begin_symbol(asked, symbol, json);
         if let Some(detail) = symbol.detail {
-            json.text_member("detail", slice_of(asked.text(), detail));
+            json.lead(",\"detail\":");
+            json.text(slice_of(asked.text(), detail));
         }
         let Symbol { whole, name, .. } = *symbol;
-        json.range_member("range", places.range_of(whole.start, whole.end));
-        let name = places.range_of(name.start, name.end);
-        json.range_member("selectionRange", name);
-        json.list_member("children");
+        let range = places.range_of(whole.start, whole.end);
+        json.lead(",\"range\":");
+        json.range(range);
+        json.lead(",\"selectionRange\":");
+        json.range(if name == whole {
+            range
+        } else {
+            places.range_of(name.start, name.end)
+        });
+        json.lead(",\"children\":[");
         open = open.min(symbol.depth).saturating_add(1);
     }
     close_to(0, open, json);
@@ -50,7 +66,7 @@ fn write_nested(asked: Asked<'_>, symbols: &[Symbol], places: &Places<'_>, json:
 fn write_flat(
     asked: Asked<'_>,
     symbols: &[Symbol],
-    places: &Places<'_>,
+    places: &mut Places<'_>,
     json: &mut JsonWriter,
 ) -> Result<(), AllocError> {
     let mut around: Vec<Span> = Vec::new(asked.alloc);
@@ -71,17 +87,18 @@ fn write_flat(
 // Begins a symbol with its name and its kind.
 fn begin_symbol(asked: Asked<'_>, symbol: &Symbol, json: &mut JsonWriter) {
     json.begin_object();
-    json.text_member("name", slice_of(asked.text(), symbol.name));
+    json.lead("\"name\":");
+    json.text(slice_of(asked.text(), symbol.name));
     let (kind, older) = kinds_of(symbol.kind);
     let is_known = asked.client.kinds.has(kind);
-    json.size_member("kind", if is_known { kind } else { older });
+    json.lead(",\"kind\":");
+    json.size(if is_known { kind } else { older });
 }
 
 // Ends each symbol that is open and not around this depth.
 fn close_to(depth: usize, open: usize, json: &mut JsonWriter) {
     for _ in depth..open {
-        json.end_list();
-        json.end_object();
+        json.end("]}");
     }
 }
 

@@ -104,7 +104,7 @@ impl<'s> Asked<'s> {
         if are_too_many(items.len(), self.text()) {
             return Err(Failure::TooManyPositions);
         }
-        let places = Places::new(self.alloc, self.client.encoding, self.text())?;
+        let mut places = Places::new(self.alloc, self.client.encoding, self.text())?;
         outbox.json.begin_list();
         for (index, value) in items.iter().enumerate() {
             let position = position_in(list, index, value)?;
@@ -113,7 +113,12 @@ impl<'s> Asked<'s> {
                 end: position,
             };
             self.log_clipped(range, outbox);
-            write_selection(self, &places, self.offset_of(position), &mut outbox.json)?;
+            write_selection(
+                self,
+                &mut places,
+                self.offset_of(position),
+                &mut outbox.json,
+            )?;
         }
         outbox.json.end_list();
         Ok(())
@@ -145,32 +150,32 @@ impl<'s> Asked<'s> {
 
     // Writes a result that has many places of the text.
     fn write_places(self, query: &Query<'_, '_>, json: &mut JsonWriter) -> Result<(), AllocError> {
-        let places = Places::new(self.alloc, self.client.encoding, self.text())?;
+        let mut places = Places::new(self.alloc, self.client.encoding, self.text())?;
         if let Method::Formatting = query.method {
-            return write_layout(self, &places, json);
+            return write_layout(self, &mut places, json);
         }
         let structure = Structure::new(self.alloc, self.text())?;
         let position = query.range.start;
         match query.method {
-            Method::DocumentSymbol => write_outline(self, &structure, &places, json),
+            Method::DocumentSymbol => write_outline(self, &structure, &mut places, json),
             Method::RangeFormatting => write_layout_of(
                 self,
                 &structure,
-                &places,
+                &mut places,
                 query.range,
                 json,
             ),
             Method::References => write_references(
                 self,
                 &structure,
-                &places,
+                &mut places,
                 position,
                 query.takes,
                 json,
             ),
-            Method::Hover => write_hover(self, &structure, &places, position, json),
+            Method::Hover => write_hover(self, &structure, &mut places, position, json),
             Method::Definition => {
-                write_definition(self, &structure, &places, position, json);
+                write_definition(self, &structure, &mut places, position, json);
                 Ok(())
             }
             _ => {

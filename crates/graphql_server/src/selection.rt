@@ -20,7 +20,7 @@ pub fn are_too_many(positions: usize, text: &str) -> bool {
 /// It fails only if memory runs out.
 pub fn write_selection(
     asked: Asked<'_>,
-    places: &Places<'_>,
+    places: &mut Places<'_>,
     offset: usize,
     json: &mut JsonWriter,
 ) -> Result<(), AllocError> {

@@ -8,7 +8,7 @@ ghost use Rattle.graphql_server.specs.Ranges.{IsRange};
 use crate::params::Opened;
 use graphql_texts::Language;
 use std::alloc::{AllocError, Global};
-use text_edits::{Document, Encoding, Position, Range};
+use text_edits::{Document, Encoding, Pieces, Position, Range};
 
 /// A text that a client has open.
 #[derive(Drop)]
@@ -90,6 +90,9 @@ pub fn change_all(
 ) -> Result<usize, AllocError>
     ensures { OnOk result (AreChanged encoding document.old changes.entry.items document.new) }
 {
+    if changes.len() > 1 {
+        return change_many(alloc, encoding, document, changes);
+    }
     let mut clipped = 0usize;
     for change in changes {
         if let Some(range) = change.range
@@ -100,6 +103,48 @@ pub fn change_all(
         change_by(alloc, encoding, document, change)?;
     }
     Ok(clipped)
+}
+
+// The same in pieces of the text, so that each change goes over its piece alone.
+fn change_many(
+    alloc: Global,
+    encoding: Encoding,
+    document: &mut Document,
+    changes: Vec<Change<'_>>,
+) -> Result<usize, AllocError>
+    ensures { OnOk result (AreChanged encoding document.old changes.entry.items document.new) }
+{
+    let mut pieces = Pieces::new(alloc, document.text())?;
+    let mut clipped = 0usize;
+    for change in changes {
+        if let Some(Range { start, end }) = change.range
+            && !(is_known_in(&pieces, encoding, start) && is_known_in(&pieces, encoding, end))
+        {
+            clipped = clipped.saturating_add(1);
+        }
+        change_piece(alloc, encoding, &mut pieces, change)?;
+    }
+    *document = pieces.into_document(alloc)?;
+    Ok(clipped)
+}
+
+// Changes a text in pieces by one change.
+fn change_piece(
+    alloc: Global,
+    encoding: Encoding,
+    pieces: &mut Pieces,
+    change: Change<'_>,
+) -> Result<(), AllocError>
+    ensures { OnOk result (IsChanged encoding pieces.old change.entry pieces.new) }
+{
+    let Change { range, text } = change;
+    match range {
+        Some(range) => pieces.apply(alloc, encoding, range, text),
+        None => {
+            *pieces = Pieces::new(alloc, text)?;
+            Ok(())
+        }
+    }
 }
 
 // Changes a text by one change.
@@ -145,6 +190,19 @@ pub fn is_known(document: &Document, encoding: Encoding, position: Position) -> 
     );
     let is_beyond = end.line == position.line && end.character <= position.character;
     is_beyond || is_position(document, encoding, position)
+}
+
+// The same of a text in pieces: that of the position in its piece.
+fn is_known_in(pieces: &Pieces, encoding: Encoding, position: Position) -> bool {
+    let (piece, passed) = pieces.around(position.line);
+    is_known(
+        piece,
+        encoding,
+        Position {
+            line: position.line.saturating_sub(passed),
+            ..position
+        },
+    )
 }
 
 /// The same of both ends of a range.

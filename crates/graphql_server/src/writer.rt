@@ -6,7 +6,7 @@ use std::mem;
 use text_edits::{Position, Range};
 
 /// A text of JSON that is being written. Once memory has run out, nothing more is written, and [`JsonWriter::finish`] fails. It is
-/// not the kit's writer, since most of an outline are ranges, which are written here in few pieces.
+/// not the kit's writer, since an outline is mostly ranges, which are written here in few pieces.
 #[derive(Drop)]
 pub struct JsonWriter {
     json: String,
@@ -14,6 +14,12 @@ pub struct JsonWriter {
     needs_comma: bool,
     // The words of the text that is written next.
     said: String,
+    // The range that was written last, and its text: most symbols of an outline have the same range twice.
+    range: Option<Range>,
+    range_text: String,
+    // The line of the position that was written last, and the text of a position on it up to its character.
+    line: Option<usize>,
+    line_text: String,
     has_failed: bool,
 }
 
@@ -24,6 +30,10 @@ impl JsonWriter {
             json: String::new(alloc),
             needs_comma: false,
             said: String::new(alloc),
+            range: None,
+            range_text: String::new(alloc),
+            line: None,
+            line_text: String::new(alloc),
             has_failed: false,
         }
     }
@@ -45,6 +55,11 @@ impl JsonWriter {
         Ok(json.into_bytes())
     }
 
+    /// Takes memory for so many bytes more at once, if there is as much.
+    pub fn reserve(&mut self, bytes: usize) {
+        let _ = self.json.reserve(bytes);
+    }
+
     // Remembers whether memory ran out.
     fn note(&mut self, written: Result<(), AllocError>) {
         self.has_failed = self.has_failed || written.is_err();
@@ -53,12 +68,13 @@ impl JsonWriter {
     // Writes a piece of the text. Inlined, so that a piece of a length that is known is copied at once.
     #[inline(always)]
     fn push(&mut self, piece: &str) {
-        if !self.has_failed {
-            self.has_failed = self.json.push_str(piece).is_err();
+        if !self.has_failed && self.json.push_str(piece).is_err() {
+            self.has_failed = true;
         }
     }
 
     // Begins a value or a member with this piece.
+    #[inline(always)]
     fn begin(&mut self, piece: &str) {
         if self.needs_comma {
             self.push(",");
@@ -89,6 +105,20 @@ impl JsonWriter {
 
     pub fn end_list(&mut self) {
         self.push("]");
+        self.needs_comma = true;
+    }
+
+    /// Writes a piece of JSON as it is, after which a value comes.
+    #[inline(always)]
+    pub fn lead(&mut self, piece: &'static str) {
+        self.push(piece);
+        self.needs_comma = false;
+    }
+
+    /// Writes the end of lists and objects.
+    #[inline(always)]
+    pub fn end(&mut self, piece: &'static str) {
+        self.push(piece);
         self.needs_comma = true;
     }
 
@@ -135,7 +165,10 @@ impl JsonWriter {
     }
 
     pub fn size(&mut self, number: usize) {
-        self.value(Buffer::new().format(number));
+        self.begin("");
+        let written = push_number(&mut self.json, number);
+        self.note(written);
+        self.needs_comma = true;
     }
 
     pub fn boolean(&mut self, value: bool) {
@@ -206,20 +239,58 @@ impl JsonWriter {
     /// Writes a member that is a range of a text.
     pub fn range_member(&mut self, name: &'static str, range: Range) {
         self.name(name);
-        self.push("{\"start\":{\"line\":");
-        self.push_position(range.start);
-        self.push("},\"end\":{\"line\":");
-        self.push_position(range.end);
-        self.push("}}");
+        self.range(range);
+    }
+
+    /// Writes a range of a text.
+    pub fn range(&mut self, range: Range) {
+        if self.range != Some(range) {
+            self.range = Some(range);
+            let written = self.say_range(range);
+            self.note(written);
+        }
+        let written = self.json.push_str(self.range_text.as_str());
+        self.note(written);
         self.needs_comma = true;
     }
 
-    // Writes a position from the number of its line to that of its character.
-    fn push_position(&mut self, position: Position) {
-        self.push(Buffer::new().format(position.line));
-        self.push(",\"character\":");
-        self.push(Buffer::new().format(position.character));
+    // Makes the text of a range.
+    fn say_range(&mut self, range: Range) -> Result<(), AllocError> {
+        self.range_text.clear();
+        self.range_text.push_str("{\"start\":")?;
+        self.say_position(range.start)?;
+        self.range_text.push_str("},\"end\":")?;
+        self.say_position(range.end)?;
+        self.range_text.push_str("}}")
     }
+
+    // Adds a position to that text, up to its last brace.
+    fn say_position(&mut self, position: Position) -> Result<(), AllocError> {
+        if self.line != Some(position.line) {
+            self.line = Some(position.line);
+            self.line_text.clear();
+            self.line_text.push_str("{\"line\":")?;
+            push_number(&mut self.line_text, position.line)?;
+            self.line_text.push_str(",\"character\":")?;
+        }
+        self.range_text.push_str(self.line_text.as_str())?;
+        push_number(&mut self.range_text, position.character)
+    }
+}
+
+// Adds a number. Most have one digit or two.
+fn push_number(json: &mut String, number: usize) -> Result<(), AllocError> {
+    if number >= 100 {
+        return json.push_str(Buffer::new().format(number));
+    }
+    if number >= 10 {
+        json.push(last_digit(number / 10))?;
+    }
+    json.push(last_digit(number))
+}
+
+fn last_digit(number: usize) -> char {
+    (b'0' + (number % 10) as u8) as char
 }
 
 // Whether this byte of a text is a character that JSON escapes (RFC 8259, section 7).

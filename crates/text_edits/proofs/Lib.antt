@@ -3,6 +3,7 @@ pub mod Boundaries
 pub mod CharLoops
 pub mod Cuts
 pub mod FirstLines
+pub mod InPieces
 pub mod Indexes
 pub mod Passed
 pub mod Patches

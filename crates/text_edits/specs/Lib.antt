@@ -5,5 +5,6 @@ pub mod Units
 pub mod Positions
 pub mod Edits
 pub mod Indexes
--- Inner: how a text is walked line after line.
+-- Inner: how a text is walked line after line, and a text in pieces.
 pub mod Starts
+pub mod Pieces

@@ -1,9 +1,10 @@
 //! A text with the index of its lines.
 
 ghost use Rattle.std.specs.Prelude.{◌≡◌, ◌+◌, IfOk, OnOk, OnErr, List, ℕ, string_bytes};
-ghost use Rattle.std.specs.Str.{chars, IsCharBoundary};
+ghost use Rattle.std.specs.Str.{chars, IsCharBoundary, IsUtf8};
 ghost use Rattle.text_edits.specs.Edits.{replaced};
 ghost use Rattle.text_edits.specs.Indexes.{starts_of};
+ghost use Rattle.text_edits.specs.Pieces.{lines_ended};
 ghost use Rattle.text_edits.specs.Positions.{offset_of, position_of, IsPosition, IsInLineEnd};
 
 use crate::edits::later;
@@ -44,6 +45,13 @@ impl Document {
         self.text.as_str()
     }
 
+    /// How many of its lines have an end: all but the last.
+    pub(crate) fn lines_ended(&self) -> usize
+        ensures { result ≡ lines_ended self.now }
+    {
+        self.index.lines().saturating_sub(1)
+    }
+
     /// The byte offset of a position: what [`offset_of`](crate::offset_of) gives.
     pub fn offset_of(&self, encoding: Encoding, position: Position) -> usize
         ensures value { result ≡ offset_of encoding self.now position }
@@ -78,6 +86,7 @@ impl Document {
         ensures ok { OnOk result (chars self.new ≡ replaced (chars self.old)
             (offset_of encoding self.old range.start) (offset_of encoding self.old range.end) (chars new.now)) }
         ensures err { OnErr result (self.new ≡ self.old) }
+        ensures valid { IsUtf8 self.new }
     {
         let start = self.offset_of(encoding, range.start);
         let end = later(start, self.offset_of(encoding, range.end));

@@ -2,7 +2,8 @@
 //!
 //! An editor names a place in a text by a line and a column ([`Position`]), a program by an offset in bytes. [`offset_of`] and
 //! [`position_of`] go from one to the other, [`apply`] replaces what is between two positions, and [`replace`] what is between
-//! two offsets. A [`Document`] is a text that does all of this in less time, by the index of its lines ([`LineIndex`]).
+//! two offsets. A [`Document`] is a text that does all of this in less time, by the index of its lines ([`LineIndex`]), and [`Pieces`] are
+//! one that takes many changes at once.
 //!
 //! A line ends at `\n`, `\r\n` or `\r`, and the last line has no end, so a text has a line more than line ends (Language Server
 //! Protocol 3.17, "Text Documents"). Columns are counted in bytes of UTF-8, code units of UTF-16 or code points ([`Encoding`]).
@@ -20,11 +21,13 @@ mod edits;
 mod line_index;
 mod lines;
 mod parts;
+mod pieces;
 mod positions;
 
 pub use document::Document;
 pub use edits::{apply, replace};
 pub use line_index::LineIndex;
+pub use pieces::Pieces;
 pub use positions::{offset_of, position_of};
 
 /// In what units the columns of a line are counted (Language Server Protocol 3.17, "PositionEncodingKind").

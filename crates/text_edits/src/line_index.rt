@@ -43,6 +43,13 @@ impl LineIndex {
         Ok(LineIndex { starts })
     }
 
+    /// How many lines the text has.
+    pub(crate) fn lines(&self) -> usize
+        ensures { result ≡ length self.now }
+    {
+        self.starts.len()
+    }
+
     // The byte at which a line of the text begins, or the text's end if it has no such line.
     fn line_start(&self, text: &str, line: usize) -> usize
         requires { self.now ≡ starts_of text.now }

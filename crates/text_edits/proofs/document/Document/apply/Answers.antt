@@ -1,5 +1,6 @@
 use Rattle.std.proofs.Common.{◌≡◌, ℕ, max, List, ◌++◌, string_bytes, ap, ap₂, ◌∙◌, arith}
 use Rattle.std.proofs.lemmas.Result.{on_ok_weaker}
+use Rattle.std.proofs.lemmas.Str.{IsUtf8-string_bytes}
 use Rattle.std.specs.Str.{chars}
 use Rattle.text_edits.specs.Edits.{replaced, before, from}
 use Rattle.text_edits.specs.Positions.{offset_of}
@@ -21,3 +22,6 @@ returns-clause-ok c =
     ap (λ (l : List ℕ). replaced (chars l) start end (chars c.args.new.now)) c.self.view_is
     ∙ ap₂ (λ (a b : ℕ). replaced (chars c.args.self.now) a b (chars c.args.new.now)) c.offset_of-start.ensures.value c.offset_of.ensures.value in
     on_ok_weaker c.replace.result (λ (h : chars (string_bytes c.replace.new.text) ≡ replaced text start c.later-end.result (chars c.args.new.now)). h ∙ one ∙ two) c.replace.ensures.text
+
+pub returns-clause-valid : goal.returns-clause-valid
+returns-clause-valid c = IsUtf8-string_bytes c.replace.new.text
