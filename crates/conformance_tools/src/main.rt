@@ -1,5 +1,5 @@
 //! Tables of what stands on the parsers: what texts are minified and formatted to, what trees are printed as, JSON, reports, the
-//! places where reading goes on after a mistake, what is wrong with a text, what an editor asks of one, positions and edits, and
+//! places where reading continues after a mistake, what is wrong with a text, what an editor asks of one, positions and edits, and
 //! calls that write texts and run out of memory. What the programs `gql` and `gqlparse` print is judged by `tests/tables.py`.
 //!
 //! The answers were worked out by hand from the rules of `docs/GRAMMAR.md` and the Language Server Protocol 3.17, or come from

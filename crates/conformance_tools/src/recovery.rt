@@ -1,4 +1,4 @@
-//! What is wrong with texts in which reading goes on after a mistake.
+//! What is wrong with texts in which reading continues after a mistake.
 mod diagnoses;
 mod lines;
 mod strings;

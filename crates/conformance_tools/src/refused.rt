@@ -1,4 +1,4 @@
-//! Calls that write texts, at the end of memory: each answers as its row says, or that memory was refused.
+//! Calls that write texts, at the end of memory: each answers as its row says, or that memory ran out.
 use crate::rewritten::{Rewriting, rewritten};
 use graphql_parser::types::{ExecutableDocument, ServiceDocument};
 use graphql_parser::{parse_query, parse_schema};

@@ -4,7 +4,7 @@ use graphql_report::{Language, explain, is_front};
 use rows::{Shown, limits_of, pair};
 use std::alloc::{AllocError, Global};
 
-/// Whether some document goes on from a text, in a language and within limits.
+/// Whether some document continues a text, in a language and within limits.
 pub fn front(shown: &mut Shown, reading: &str, text: &str) {
     let Some((language, limits)) = read_as(reading) else {
         return shown.word("no such reading");

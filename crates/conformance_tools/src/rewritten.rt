@@ -1,4 +1,4 @@
-//! Texts written anew: without what is ignored in them and isn't needed, and laid out.
+//! Texts rewritten: without what is ignored in them and isn't needed, and laid out.
 use graphql_parser::{Limits, Result as Answer};
 use graphql_printer::{format_query, format_schema, minify_query, minify_schema};
 use rows::{Parser, Shown, limits_of, pair, write_error};
@@ -35,7 +35,7 @@ pub fn answer(shown: &mut Shown, rewriting: Rewriting, asked: &str, text: &str) 
     }
 }
 
-// Writes what a text becomes, and whether it's written anew again as something else.
+// Writes what a text becomes, and whether it's rewritten again as something else.
 fn write_anew(
     shown: &mut Shown,
     rewriting: Rewriting,

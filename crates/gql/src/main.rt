@@ -5,7 +5,7 @@
 //!
 //! Proved of it: it is safe and ends on every input; the status is 0, 1 or 2; a text is found good only where its tokens
 //! have a tree, or where it has no token and may have none, and the files that are checked end with status 0 only where each of
-//! them was found good; only a good text is written anew, and it means the same then, and so does what is printed of a tree.
+//! them was found good; only a good text is rewritten, and it means the same then, and so does what is printed of a tree.
 //! What else it prints is tested.
 #![tactic(auto)]
 

@@ -100,7 +100,7 @@ fn check_text(call: &Call<'_>, name: &str, text: &str, teller: &mut Teller) -> F
     }
 }
 
-/// A text of a file of this name, as the call reads it. An error says that memory was refused.
+/// A text of a file of this name, as the call reads it. An error reports that memory ran out.
 pub fn source_of<'a>(
     alloc: Global,
     call: &Call<'_>,
@@ -130,7 +130,7 @@ pub fn is_blank(text: &str) -> bool
     }
 }
 
-/// What is found of a text, after what is wrong with it is reported. If memory is refused, a budget stops the check of
+/// What is found of a text, after what is wrong with it is reported. If memory runs out, a budget stops the check of
 /// this text alone.
 pub fn check_source(call: &Call<'_>, source: &Source<'_>, teller: &mut Teller) -> Found
     ensures { (result ≡ Good) →

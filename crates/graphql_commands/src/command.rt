@@ -19,7 +19,7 @@ use std::io::ErrorKind;
 pub enum Command {
     /// `check`: what is wrong with each of them is reported.
     Check,
-    /// `format`: each of them is laid out anew, in its place.
+    /// `format`: each of them is laid out, in its place.
     Format,
     /// `minify`: one is printed without what it doesn't need.
     Minify,
@@ -87,7 +87,7 @@ pub enum NoCall {
     Shown(String),
     /// What is wrong with the arguments, for standard error.
     Wrong(String),
-    /// Memory was refused.
+    /// Memory ran out.
     NoMemory,
 }
 

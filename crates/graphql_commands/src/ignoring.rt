@@ -6,7 +6,7 @@ use std::alloc::{AllocError, Global};
 
 /// Whether these patterns, the lines of a `.gitignore` file, exclude the file or the folder of this path: its names
 /// from the folder of that file on, with `/` between them. What is in an excluded folder is excluded too, but that
-/// isn't seen here. The error says that memory was refused.
+/// isn't seen here. An error reports that memory ran out.
 pub fn is_ignored(
     alloc: Global,
     patterns: &str,

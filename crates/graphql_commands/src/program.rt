@@ -17,9 +17,9 @@ use std::io::Write;
 // What `run` says of `lsp`, which the program itself answers.
 const NO_SERVER: &str = "gql: an editor is served by the program alone\n";
 
-/// Does the work of the program, and returns the exit status: 0, or 1 if a text is rejected, or would be written anew
+/// Does the work of the program, and returns the exit status: 0, or 1 if a text is rejected, or would be rewritten
 /// and is only checked, or 2 for wrong arguments, a file that can't be read or written or is no UTF-8, output that
-/// can't be written, and memory that is refused. That the reader of `out` has gone away changes no status.
+/// can't be written, and memory that runs out. That the reader of `out` has gone away changes no status.
 ///
 /// `asked` is what the arguments ask for. Texts are read from `texts`, and put there in the place of others; lists,
 /// trees and other texts go to `out`, reports and complaints to `err`, the reports in this style. If memory runs out,

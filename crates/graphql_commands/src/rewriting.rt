@@ -1,4 +1,4 @@
-//! Writing texts anew: files in their places, and one text, or its tree, for standard output.
+//! Writing texts: files in their places, and one text, or its tree, for standard output.
 ghost use Rattle.std.specs.Prelude.{◌≡◌, ◌≢◌, ◌≤◌, ◌⊎◌, ℕ, List, Result as Said, Ok, true, IfErr, IfOk, map, take, string_bytes};
 ghost use Rattle.graphql_layout.specs.texts.LaidOut.{IsLaidOut};
 ghost use Rattle.graphql_report.specs.declared.fronts.Language.{Language as Lang};
@@ -32,7 +32,7 @@ pub fn found_by(error: &Error, source: &Source<'_>, teller: &mut Teller) -> Foun
     Found::Rejected
 }
 
-/// The text that the command writes in the place of this one, of a file of this name: laid out anew, its tree as text,
+/// The text that the command writes in the place of this one, of a file of this name: laid out, its tree as text,
 /// or minified with a line feed after it. What was found of the text if it isn't good, which is reported; to print it,
 /// it needs an operation too, since a parse returns no tree of fragments alone.
 pub fn written_anew<'a>(

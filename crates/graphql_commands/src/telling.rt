@@ -31,7 +31,7 @@ pub struct Teller {
     pub lines: String,
     // How many findings were reported.
     findings: usize,
-    // How many files were good or written anew, stayed as they are, were rejected, and couldn't be read or written.
+    // How many files were good or rewritten, stayed as they are, were rejected, and couldn't be read or written.
     done: usize,
     unchanged: usize,
     rejected: usize,
@@ -124,7 +124,7 @@ impl Teller {
         Found::Unread
     }
 
-    /// Keeps whether memory was refused.
+    /// Keeps whether memory ran out.
     pub fn note(&mut self, written: Result<(), AllocError>) {
         if written.is_err() {
             self.is_out_of_memory = true;

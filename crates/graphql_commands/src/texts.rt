@@ -39,7 +39,7 @@ pub enum Unread {
     NotText,
     /// Its check needs more memory than it may take.
     OverBudget,
-    /// Memory was refused.
+    /// Memory ran out.
     NoMemory,
 }
 
@@ -108,7 +108,7 @@ pub enum Unwritten {
     Unwritable,
     /// It has a part of the new text, and its old text, which couldn't be put back, is in the file of this name.
     HalfWritten(String),
-    /// Memory was refused.
+    /// Memory ran out.
     NoMemory,
 }
 

@@ -24,7 +24,7 @@ use graphql_printer::{format_query, format_schema, minify_query, minify_schema};
 use graphql_report::Language;
 use std::alloc::{AllocError, Global};
 
-/// The documents of a language: how a text is read and written anew, its tree written and packed, and an error in it explained.
+/// The documents of a language: how a text is read and rewritten, its tree written and packed, and an error in it explained.
 pub trait Document: Drop {
     ghost use Rattle.graphql_json.specs.declared.place.Places.{Places as WrittenPlaces};
     ghost use Rattle.graphql_packed.specs.packed.Bytes.{Bytes};
@@ -74,7 +74,7 @@ pub trait Document: Drop {
     ) -> std::result::Result<String, AllocError>
         ensures { IfOk result (λ s. Minifies Self.language limits text.now (string_bytes s)) };
 
-    /// An accepted text laid out anew.
+    /// An accepted text laid out.
     fn formatted(
         alloc: Global,
         text: &str,

@@ -18,7 +18,7 @@ use crate::telling::{Left, Places, Question, ReadableText, tell};
 use graphql_parser::{Error, Limits, Memory, Result};
 use std::alloc::{AllocError, Global};
 
-/// What is made to be handed over; an error says that memory was refused.
+/// What is made to be handed over; an error says that memory ran out.
 pub type Made = std::result::Result<Block, AllocError>;
 
 /// What a call hands over of a text in the language of `D`.
@@ -65,7 +65,7 @@ impl<D: Document> Handing<D> for Nothing {
     }
 }
 
-// What is handed over of an answer; an error says that memory was refused, to the parser or to what makes it.
+// What is handed over of an answer; an error says that memory ran out, to the parser or to what makes it.
 fn made_of<D: Document, H: Handing<D>>(
     alloc: Global,
     handing: &H,
@@ -82,7 +82,7 @@ fn made_of<D: Document, H: Handing<D>>(
     }
 }
 
-// Reports an answer and hands over what was made of it; or, where memory was refused to that, reports this alone and hands over
+// Reports an answer and hands over what was made of it; or, if that runs out of memory, reports this alone and hands over
 // nothing.
 fn hand_over<T>(answer: &Result<T>, made: Made, places: &mut Places, block: &mut Block) -> Status
     requires { answer.now ≡ Err OutOfMemory → IsErr made }

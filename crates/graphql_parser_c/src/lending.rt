@@ -1,7 +1,7 @@
 //! What a caller in C lends to a call, and is given back.
 //!
 //! A caller passes a text as a pointer and a length, and room for places as a pointer. Either pointer may be null: the one
-//! where the text has no bytes, the other where nobody wants places. So neither is a `&`, and a value of this module says
+//! if the text has no bytes, the other if nobody wants places. So neither is a `&`, and a value of this module says
 //! which memory its pointer stands for. On x86-64 a struct of a pointer and a length is passed as these two are, and one of
 //! a pointer, or of a number, as that one is; the header declares them so.
 //!
@@ -15,7 +15,7 @@ ghost use Rattle.graphql_parser_c.specs.declared.telling.Places.{Places};
 use crate::telling::Places;
 use std::marker::Model;
 
-/// A text: where its bytes are, which may be null where there are none, and how many there are. Nothing changes them
+/// A text: where its bytes are, which may be null if there are none, and how many there are. Nothing changes them
 /// during the lifetime `life`, which lasts until the caller has it back.
 #[repr(C)]
 pub struct Text {

@@ -10,7 +10,7 @@
 //!
 //! Proved of each call, for every text, at null too where it has no bytes, and for all limits: its status and its
 //! places are those of the parser's one answer for that text, as `graphql_parser` promises it, or the status says that
-//! a limit is too large or that the text isn't UTF-8, exactly where that is so. Where the status says something of the
+//! a limit is too large or that the text isn't UTF-8, exactly if that is so. Where the status says something of the
 //! text, what a parse hands over is the JSON of that answer's tree or error, as `graphql_json` defines it, and these
 //! bytes lie where the pointer says; else null is handed over, with no bytes. Of an answer that is an error, an
 //! explanation hands over a report as `graphql_report` defines it, of a text in a file without a name; else nothing. Of
@@ -108,7 +108,7 @@ pub extern "C" fn graphql_parser_check_schema(
 }
 
 /// Checks a request as [`graphql_parser_check_query`] does, and takes `memory` bytes at most, counted as `Memory` of
-/// `graphql_parser` does. A text that needs more is reported as one for which memory was refused.
+/// `graphql_parser` does. A text that needs more is reported as one for which memory ran out.
 #[unsafe(no_mangle)]
 pub extern "C" fn graphql_parser_check_query_within(
     alloc: Global,
@@ -154,7 +154,7 @@ pub extern "C" fn graphql_parser_check_schema_within(
 ///
 /// The JSON is that of `graphql_json`: for an accepted text `request_json`, with the places that it writes where
 /// `with_places` is true; for a rejected one `error_json`. It is handed over in a block of the program's `malloc`, which
-/// the caller gives back by `free`. Where memory was refused, a limit is too large or the text isn't UTF-8, it is null
+/// the caller gives back by `free`. If memory ran out, a limit is too large or the text isn't UTF-8, it is null
 /// and has no bytes. `json` is written on every call, and what stood there isn't looked at.
 #[unsafe(no_mangle)]
 pub extern "C" fn graphql_parser_parse_query(
@@ -271,7 +271,7 @@ pub extern "C" fn graphql_parser_parse_schema_within(
 ///
 /// The report is that of `graphql_report`'s `explain` for a file without a name: what was found and what was expected, with
 /// the line of the place and a caret under it. It is handed over in a block of the program's `malloc`, which the caller
-/// gives back by `free`. For an accepted text, and where memory was refused, a limit is too large or the text isn't UTF-8,
+/// gives back by `free`. For an accepted text, and if memory ran out, a limit is too large or the text isn't UTF-8,
 /// it is null and has no bytes. `report` is written on every call, and what stood there isn't looked at.
 #[unsafe(no_mangle)]
 pub extern "C" fn graphql_parser_explain_query(
@@ -410,7 +410,7 @@ pub extern "C" fn graphql_parser_minify_schema(
     call::<ServiceDocument, Minified>(alloc, text, bounds, &Minified, places, minified)
 }
 
-/// Checks a request as [`graphql_parser_check_query`] does, and hands over the text laid out anew.
+/// Checks a request as [`graphql_parser_check_query`] does, and hands over the text laid out.
 ///
 /// Its tokens and comments are kept, as `format_query` of `graphql_printer` keeps them. The text is handed over as
 /// [`graphql_parser_minify_query`] hands over its own; `formatted` is written on every call.
@@ -434,7 +434,7 @@ pub extern "C" fn graphql_parser_format_query(
     call::<ExecutableDocument, Formatted>(alloc, text, bounds, &Formatted, places, formatted)
 }
 
-/// Checks a schema file as [`graphql_parser_check_schema`] does, and hands over the text laid out anew, as
+/// Checks a schema file as [`graphql_parser_check_schema`] does, and hands over the text laid out, as
 /// [`graphql_parser_format_query`] does of a request.
 #[unsafe(no_mangle)]
 pub extern "C" fn graphql_parser_format_schema(

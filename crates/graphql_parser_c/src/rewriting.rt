@@ -1,4 +1,4 @@
-//! How a text is handed over written anew.
+//! How a text is handed over rewritten.
 ghost use Rattle.std.specs.Prelude.{◌≡◌};
 ghost use Rattle.graphql_parser.specs.Checking.{checked};
 ghost use Rattle.graphql_parser_c.specs.Rewriting.{LaysOut, Minifies, Rewrites};
@@ -34,7 +34,7 @@ impl<D: Document> Handing<D> for Minified {
     }
 }
 
-/// Hands over the text laid out anew, and nothing of one that is rejected.
+/// Hands over the text laid out, and nothing of one that is rejected.
 pub struct Formatted;
 
 impl<D: Document> Handing<D> for Formatted {

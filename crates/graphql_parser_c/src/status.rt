@@ -9,15 +9,15 @@ use graphql_parser::Error;
 pub enum Status {
     /// The text has its one tree within the limits, and breaks no rule.
     Accepted = 0,
-    /// Memory was refused; nothing is said of the text.
+    /// Memory ran out; nothing is said of the text.
     OutOfMemory = 1,
     /// The text isn't UTF-8, so it wasn't read.
     NotUtf8 = 2,
     /// One of the three limits is over 256, so the text wasn't read.
     LimitTooLarge = 3,
-    /// The text has no tree: the token at the first place is the first with which no document goes on.
+    /// The text has no tree: the token at the first place is the first with which no document continues.
     Syntax = 4,
-    /// The text has no tree within the limits, and its rejected token could go on without them.
+    /// The text has no tree within the limits, and its rejected token could continue without them.
     RecursionLimitExceeded = 5,
     /// A request has an operation without a name beside another: at the first place, and at the second.
     MultipleOperations = 6,

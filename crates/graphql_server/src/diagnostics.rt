@@ -38,7 +38,7 @@ pub fn found_in(
     diagnoses_of(alloc, language, document.text(), Limits::default())
 }
 
-/// The diagnostics of a text that is read as this language, each with the range of what is refused, and, for a name that is defined
+/// The diagnostics of a text that is read as this language, each with the range of what is rejected, and, for a name that is defined
 /// twice, with the place of the other definition, or, for a bracket that isn't closed, with that of the bracket, if such places are
 /// wanted. They are made from this text alone, and there is none only if the text is good.
 ///

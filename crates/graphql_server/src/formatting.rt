@@ -1,4 +1,4 @@
-//! Texts laid out anew, as edits of the lines that change (Language Server Protocol 3.17, "Document Formatting Request", "Document
+//! Texts laid out, as edits of the lines that change (Language Server Protocol 3.17, "Document Formatting Request", "Document
 //! Range Formatting Request").
 
 use crate::differences::edits_between;
@@ -94,7 +94,7 @@ fn without_end<'a>(text: &'a str, line_end: &str) -> &'a str {
     text.strip_suffix(line_end).unwrap_or(text)
 }
 
-// The text laid out anew, if it is good.
+// The text laid out, if it is good.
 fn formatted(alloc: Global, language: Language, text: &str) -> Result<Option<String>, AllocError> {
     let source = Source {
         name: "",

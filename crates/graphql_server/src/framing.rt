@@ -9,7 +9,7 @@ pub const LONGEST_HEADERS: usize = 1024;
 /// A content of more bytes than this, 64 MiB, is not taken (this project's choice).
 pub const LONGEST_CONTENT: usize = 64 * 1024 * 1024;
 
-// After a fault, reading goes on where this comes next.
+// After a fault, reading continues where this comes next.
 const LENGTH_FIELD: &[u8] = b"Content-Length:";
 
 /// What comes next in the bytes that arrived.

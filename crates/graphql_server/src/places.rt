@@ -7,7 +7,7 @@ use text_edits::{Encoding, Position, Range};
 // How many units are before a byte is kept of each so many bytes.
 const STEP: usize = 8;
 
-// The bits of so many bytes that none of them has if each is a character.
+// The bits of this many bytes that none of them has if each is a character.
 const NOT_ASCII: u64 = 0x8080_8080_8080_8080;
 
 // So many lines are looked at before any other.

@@ -6,7 +6,7 @@ use crate::writer::JsonWriter;
 use graphql_editor::selection_at;
 use std::alloc::AllocError;
 
-// A request may make the server go over so many bytes.
+// A request may make the server go over this many bytes.
 const MOST_BYTES: usize = 128 * 1024 * 1024;
 
 /// Whether there are too many positions to be answered in good time, since the text is read anew for each: so many that more than 128

@@ -37,7 +37,7 @@ impl Server {
     /// Takes the bytes that arrived, in whatever parts. [`Server::next`] does what the messages that are whole then ask for.
     ///
     /// If there is no memory for them, the messages in them and the one that is in part before them are lost. They may have changed a
-    /// text, so no text is open from then on. That is logged once there is memory for it, and reading goes on at the next
+    /// text, so no text is open from then on. That is logged once there is memory for it, and reading continues at the next
     /// `Content-Length:`.
     pub fn receive(&mut self, bytes: &[u8]) {
         if self.frames.add(bytes).is_err() {
@@ -50,10 +50,10 @@ impl Server {
     /// that were changed is published, unless it was before.
     ///
     /// A request is answered before the next message is read; one about a text that isn't open is answered from its file. A header part
-    /// that is wrong, or a length beyond 64 MiB, is logged, and reading goes on at the next `Content-Length:`. A content that is no JSON
+    /// that is wrong, or a length beyond 64 MiB, is logged, and reading continues at the next `Content-Length:`. A content that is no JSON
     /// is answered by an error without id. Either may have been a change, so no text is open from then on.
     ///
-    /// A request for whose answer memory runs out is answered by an error. Each such want of memory is logged once there is memory for
+    /// A request for whose answer memory runs out is answered by an error. Each such lack of memory is logged once there is memory for
     /// that, and the other messages are answered all the same.
     pub fn next<F: Files>(&mut self, files: &mut F) -> bool {
         if self.has_ended().is_some() {

@@ -166,7 +166,7 @@ fn change_by(
     }
 }
 
-/// Whether a position is one of the text: on a line that it has, and not behind its end, nor inside of a character.
+/// Whether a position is one of the text: on a line that it has, and not beyond its end, nor inside of a character.
 pub fn is_position(document: &Document, encoding: Encoding, position: Position) -> bool
     ensures { IsTrue result ↔ IsPosition encoding document.now position }
 {

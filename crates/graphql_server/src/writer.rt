@@ -55,7 +55,7 @@ impl JsonWriter {
         Ok(json.into_bytes())
     }
 
-    /// Takes memory for so many bytes more at once, if there is as much.
+    /// Takes memory for this many bytes more at once, if there is as much.
     pub fn reserve(&mut self, bytes: usize) {
         let _ = self.json.reserve(bytes);
     }

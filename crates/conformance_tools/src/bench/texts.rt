@@ -18,7 +18,7 @@ pub enum Way {
     Give,
     /// It is checked, and what is wrong with it reported.
     Explain,
-    /// It is laid out anew, minified, parsed, and its tree printed.
+    /// It is laid out, minified, parsed, and its tree printed.
     Write,
     /// It is cut into tokens, checked and parsed, and its tree walked.
     Cut,
