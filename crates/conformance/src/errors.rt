@@ -47,32 +47,14 @@ fn write_part_of(shown: &mut Shown, part: &str, error: &Error, rest: &str) {
 
 // The error of this name.
 fn named(alloc: Global, what: &str) -> Option<Error> {
-    Some(match what {
-        "queries" => several_roots(OperationType::Query),
-        "mutations" => several_roots(OperationType::Mutation),
-        "subscriptions" => several_roots(OperationType::Subscription),
-        "no query" => Error::MissingQueryRoot { pos: A },
-        "no query elsewhere" => Error::MissingQueryRoot { pos: B },
-        "limit" => Error::RecursionLimitExceeded,
-        "memory" => Error::OutOfMemory,
-        "refused memory" => Error::from(AllocError),
-        "operations" => Error::MultipleOperations {
-            anonymous: A,
-            operation: B,
-        },
-        "operation twice" => Error::OperationDuplicated {
-            operation: Name::new(alloc, "Q_1").ok()?,
-            first: A,
-            second: B,
-        },
-        "fragment twice" => Error::FragmentDuplicated {
-            fragment: Name::new(alloc, "F").ok()?,
-            first: A,
-            second: B,
-        },
-        "no operation" => Error::MissingOperation,
-        other => return syntax_named(alloc, other),
-    })
+    match what {
+        "queries" => Some(several_roots(OperationType::Query)),
+        "mutations" => Some(several_roots(OperationType::Mutation)),
+        "subscriptions" => Some(several_roots(OperationType::Subscription)),
+        "no query" => Some(Error::MissingQueryRoot { pos: A }),
+        "no query elsewhere" => Some(Error::MissingQueryRoot { pos: B }),
+        _ => request_named(alloc, what),
+    }
 }
 
 fn several_roots(root: OperationType) -> Error {
@@ -80,6 +62,44 @@ fn several_roots(root: OperationType) -> Error {
         root,
         schema: A,
         pos: B,
+    }
+}
+
+fn request_named(alloc: Global, what: &str) -> Option<Error> {
+    match what {
+        "operations" => Some(Error::MultipleOperations {
+            anonymous: A,
+            operation: B,
+        }),
+        "operation twice" => operation_twice(Name::new(alloc, "Q_1")),
+        "fragment twice" => fragment_twice(Name::new(alloc, "F")),
+        "no operation" => Some(Error::MissingOperation),
+        _ => other_named(alloc, what),
+    }
+}
+
+fn operation_twice(operation: Result<Name, AllocError>) -> Option<Error> {
+    Some(Error::OperationDuplicated {
+        operation: operation.ok()?,
+        first: A,
+        second: B,
+    })
+}
+
+fn fragment_twice(fragment: Result<Name, AllocError>) -> Option<Error> {
+    Some(Error::FragmentDuplicated {
+        fragment: fragment.ok()?,
+        first: A,
+        second: B,
+    })
+}
+
+fn other_named(alloc: Global, what: &str) -> Option<Error> {
+    match what {
+        "limit" => Some(Error::RecursionLimitExceeded),
+        "memory" => Some(Error::OutOfMemory),
+        "refused memory" => Some(Error::from(AllocError)),
+        _ => syntax_named(alloc, what),
     }
 }
 
@@ -102,13 +122,17 @@ fn syntax_named(alloc: Global, what: &str) -> Option<Error> {
 // What an error prints, and its places as JSON.
 fn write_printed(shown: &mut Shown, error: &Error) {
     shown.item("", error);
-    match serde_json::to_string(shown.alloc(), &error.positions()) {
-        Ok(places) => shown.item(" ", &places),
-        Err(_) => shown.leave_out(),
-    }
+    write_places(shown, &error.positions());
     match error.clone() {
         Ok(copy) if copy == *error => write_unless_alike(shown, error, &copy),
         Ok(_) => shown.word(" with another copy"),
+        Err(_) => shown.leave_out(),
+    }
+}
+
+fn write_places(shown: &mut Shown, places: &ErrorPositions) {
+    match serde_json::to_string(shown.alloc(), places) {
+        Ok(places) => shown.item(" ", &places),
         Err(_) => shown.leave_out(),
     }
 }

@@ -11,17 +11,25 @@ use rows::Shown;
 /// place. `schema` asks for what is wrong with a schema file.
 pub fn write_checked(shown: &mut Shown, limit: &str, text: &str) {
     match limit.parse() {
-        Ok(limit) => match parse_query(shown.alloc(), text) {
-            Ok(document) => {
-                write_cost(shown, &document, limit);
-                write_request_faults(shown, &document);
-            }
-            Err(error) => write_error(shown, &error),
-        },
-        Err(_) => match parse_schema(shown.alloc(), text) {
-            Ok(document) => write_schema_faults(shown, &document),
-            Err(error) => write_error(shown, &error),
-        },
+        Ok(limit) => write_request(shown, limit, text),
+        Err(_) => write_schema(shown, text),
+    }
+}
+
+fn write_request(shown: &mut Shown, limit: u32, text: &str) {
+    match parse_query(shown.alloc(), text) {
+        Ok(document) => {
+            write_cost(shown, &document, limit);
+            write_request_faults(shown, &document);
+        }
+        Err(error) => write_error(shown, &error),
+    }
+}
+
+fn write_schema(shown: &mut Shown, text: &str) {
+    match parse_schema(shown.alloc(), text) {
+        Ok(document) => write_schema_faults(shown, &document),
+        Err(error) => write_error(shown, &error),
     }
 }
 

@@ -41,12 +41,15 @@ pub fn write_long_file(shown: &mut Shown, count: &str) {
         write_two(&mut text, index);
         write_two_wanted(&mut wanted, index);
     }
-    let text = text.whole().unwrap_or("");
+    write_long_text(shown, text.whole().unwrap_or(""), &wanted);
+}
+
+fn write_long_text(shown: &mut Shown, text: &str, wanted: &Shown) {
     if check_schema(shown.alloc(), text).is_err() {
         shown.word("refused by the check ");
     }
     match parse_schema(shown.alloc(), text) {
-        Ok(document) => write_unless_wanted(shown, &document, &wanted),
+        Ok(document) => write_unless_wanted(shown, &document, wanted),
         Err(_) => shown.word("refused"),
     }
 }

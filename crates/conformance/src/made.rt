@@ -10,14 +10,20 @@ use rows::{Shown, limits_of};
 /// - `set`: how many selections a new set has
 /// - `locations`: the places where directives may stand, each as it is called and as it prints
 pub fn write_made(shown: &mut Shown, what: &str, text: &str) {
-    match (what, limits_of(text)) {
-        ("limits", None) => shown.word("none"),
-        ("limits", Some(limits)) if limits == Limits::default() => shown.word("the default"),
-        ("limits", Some(_)) => shown.word("some"),
-        ("limits shown", Some(limits)) => write_limits(shown, limits),
-        ("set", _) => shown.item("", &SelectionSet::new(shown.alloc()).items.len()),
-        ("locations", _) => write_locations(shown),
+    match what {
+        "limits" => shown.word(kind_of(limits_of(text))),
+        "limits shown" => write_limits(shown, limits_of(text)),
+        "set" => shown.item("", &SelectionSet::new(shown.alloc()).items.len()),
+        "locations" => write_locations(shown),
         _ => shown.word("nothing to make"),
+    }
+}
+
+fn kind_of(limits: Option<Limits>) -> &'static str {
+    match limits {
+        None => "none",
+        Some(limits) if limits == Limits::default() => "the default",
+        Some(_) => "some",
     }
 }
 
@@ -28,7 +34,10 @@ fn write_locations(shown: &mut Shown) {
     }
 }
 
-fn write_limits(shown: &mut Shown, limits: Limits) {
+fn write_limits(shown: &mut Shown, limits: Option<Limits>) {
+    let Some(limits) = limits else {
+        return shown.word("none");
+    };
     let copy = limits;
     shown.debugged("", &limits);
     shown.item(" ", &copy.selections());

@@ -18,7 +18,7 @@ mod refused;
 mod seeds;
 mod trees;
 
-use rows::{Calls, Parser, Row, Shown, judge, pair, words};
+use rows::{Calls, Parser, Row, Shown, judge, pair, try_call, words};
 use std::test::Fail;
 
 /// The calls of this program's tables.
@@ -27,22 +27,36 @@ struct OfParsers;
 
 impl Calls for OfParsers {
     fn answer(self, shown: &mut Shown, call: &str, text: &str) {
-        match pair(call, " ") {
-            ("query", asked) => parser::write_asked(shown, Parser::Query, asked, text),
-            ("schema", "kept") => kept::write_file(shown, text),
-            ("schema", "long") => kept::write_long_file(shown, text),
-            ("schema", asked) => parser::write_asked(shown, Parser::Schema, asked, text),
-            ("error", part) => errors::write_part(shown, part, text),
-            ("made", what) => made::write_made(shown, what, text),
-            ("seeds", what) => seeds::write_seeds(shown, what, text),
-            ("example", limit) => example::write_checked(shown, limit, text),
-            ("readme", example) => readme::write_example(shown, example, text),
-            _ => parts::answer(shown, call, text),
+        let (what, asked) = pair(call, " ");
+        match what {
+            "query" => parser::write_asked(shown, Parser::Query, asked, text),
+            "schema" => answer_schema(shown, asked, text),
+            "error" => errors::write_part(shown, asked, text),
+            "example" => example::write_checked(shown, asked, text),
+            _ => answer_other(shown, call, text),
         }
     }
 
     fn try_row(self, shown: &mut Shown, row: &Row<'_>) -> bool {
-        refused::try_row(shown, row)
+        try_call(shown, row, refused::given_to(shown.alloc(), row))
+    }
+}
+
+fn answer_schema(shown: &mut Shown, asked: &str, text: &str) {
+    match asked {
+        "kept" => kept::write_file(shown, text),
+        "long" => kept::write_long_file(shown, text),
+        _ => parser::write_asked(shown, Parser::Schema, asked, text),
+    }
+}
+
+fn answer_other(shown: &mut Shown, call: &str, text: &str) {
+    let (what, asked) = pair(call, " ");
+    match what {
+        "made" => made::write_made(shown, asked, text),
+        "seeds" => seeds::write_seeds(shown, asked, text),
+        "readme" => readme::write_example(shown, asked, text),
+        _ => parts::answer(shown, call, text),
     }
 }
 

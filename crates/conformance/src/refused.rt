@@ -5,4 +5,4 @@ mod free;
 mod given;
 mod trees;
 
-pub use given::try_row;
+pub use given::given_to;

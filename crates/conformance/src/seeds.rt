@@ -22,14 +22,23 @@ pub fn write_seeds(shown: &mut Shown, what: &str, text: &str) {
 
 fn write_changed(shown: &mut Shown, count: usize) {
     let seed = seed_of(shown.alloc(), count, count);
-    shown.word(match seed {
-        None => "two seeds",
-        Some(seed) if seed == NameSeed::default() => "the default",
-        Some(_) => "a digest",
-    });
+    shown.word(kind_of(seed));
     if seed != seed_of(shown.alloc(), count, count) {
         shown.word(", another seed for the same names");
     }
+    write_others(shown, seed, count);
+}
+
+fn kind_of(seed: Option<NameSeed>) -> &'static str {
+    match seed {
+        None => "two seeds",
+        Some(seed) if seed == NameSeed::default() => "the default",
+        Some(_) => "a digest",
+    }
+}
+
+// How many of so many names change this seed.
+fn write_others(shown: &mut Shown, seed: Option<NameSeed>, count: usize) {
     let mut others = 0usize;
     for changed in 0..count {
         match seed_of(shown.alloc(), count, changed) {

@@ -1,25 +1,18 @@
 //! The spans that an editor is given of texts that are cut anywhere.
 use crate::editor::cut;
-use graphql_editor::{Span, Structure, selection_at};
+use graphql_editor::{Fold, Occurrence, Span, Structure, Symbol, selection_at};
 use rows::Shown;
 
 /// Writes the words `in order`, or the texts of which a span is not: of the fronts and the backs of a text, and of the text without
 /// one character.
 pub fn write_cuts(shown: &mut Shown, text: &str) {
-    let mut other = Shown::new(shown.alloc(), true);
     for (at, c) in text.char_indices() {
         if let Some((front, back)) = text.split_at_checked(at)
             && let Some((_, rest)) = back.split_at_checked(c.len_utf8())
         {
-            other.clear();
-            other.word(front);
-            other.word(rest);
             write_unordered(shown, front, at);
             write_unordered(shown, back, at);
-            match other.whole() {
-                Some(other) => write_unordered(shown, other, at),
-                None => shown.leave_out(),
-            }
+            write_unordered_both(shown, front, rest, at);
         }
     }
     if shown.whole() == Some("") {
@@ -37,6 +30,17 @@ fn write_unordered(shown: &mut Shown, text: &str, offset: usize) {
     match selection_at(shown.alloc(), text, offset) {
         Ok(selection) => write_unless(shown, text, are_of(text, &selection)),
         Err(_) => shown.leave_out(),
+    }
+}
+
+// The same of the text that these two make.
+fn write_unordered_both(shown: &mut Shown, front: &str, back: &str, offset: usize) {
+    let mut text = Shown::new(shown.alloc(), true);
+    text.word(front);
+    text.word(back);
+    match text.whole() {
+        Some(text) => write_unordered(shown, text, offset),
+        None => shown.leave_out(),
     }
 }
 
@@ -62,27 +66,53 @@ fn are_of(text: &str, spans: &[Span]) -> bool {
 }
 
 fn is_in_order(structure: &Structure, text: &str) -> bool {
-    let mut holds = true;
+    let definitions = structure.definitions();
+    are_symbols_in_order(text, structure.symbols())
+        && are_folds_of(text, structure.folds())
+        && are_names_in_order(text, structure.names(), definitions.len())
+        && are_in_order(text, definitions)
+}
+
+fn are_symbols_in_order(text: &str, symbols: &[Symbol]) -> bool {
     let mut last = 0;
-    for symbol in structure.symbols() {
+    for symbol in symbols {
         let detail = symbol.detail.unwrap_or(symbol.name);
-        holds = holds && is_of(text, last, symbol.whole);
-        holds = holds && is_of(text, 0, symbol.name) && is_of(text, 0, detail);
+        if !is_of(text, last, symbol.whole) || !are_of(text, &[symbol.name, detail]) {
+            return false;
+        }
         last = symbol.whole.start;
     }
-    for fold in structure.folds() {
-        holds = holds && is_of(text, 0, fold.span);
+    true
+}
+
+fn are_folds_of(text: &str, folds: &[Fold]) -> bool {
+    for fold in folds {
+        if !is_of(text, 0, fold.span) {
+            return false;
+        }
     }
-    last = 0;
-    for name in structure.names() {
-        let has_definition = name.definition < structure.definitions().len();
-        holds = holds && has_definition && is_of(text, last, name.span);
+    true
+}
+
+// The same of names, of which each has one of so many definitions.
+fn are_names_in_order(text: &str, names: &[Occurrence], definitions: usize) -> bool {
+    let mut last = 0;
+    for name in names {
+        if name.definition >= definitions || !is_of(text, last, name.span) {
+            return false;
+        }
         last = name.span.end;
     }
-    last = 0;
-    for definition in structure.definitions() {
-        holds = holds && is_of(text, last, *definition);
-        last = definition.end;
+    true
+}
+
+fn are_in_order(text: &str, spans: &[Span]) -> bool {
+    let mut last = 0;
+    for span in spans {
+        if !is_of(text, last, *span) {
+            return false;
+        }
+        last = span.end;
     }
-    holds
+    true
 }

@@ -1,5 +1,5 @@
 //! What an editor asks of a text.
-use graphql_editor::{Occurrence, Span, Structure, Symbol, selection_at};
+use graphql_editor::{Fold, Occurrence, Span, Structure, Symbol, selection_at};
 use rows::{Shown, pair};
 
 /// Writes what there is in a text, in turn, or the word `nothing`.
@@ -22,20 +22,24 @@ pub fn write_listed(shown: &mut Shown, what: &str, text: &str) {
 fn write_list(shown: &mut Shown, what: &str, text: &str, structure: &Structure) {
     match what {
         "outline" => write_outline(shown, text, structure.symbols()),
-        "symbols" => {
-            for symbol in structure.symbols() {
-                write_span(shown, text, symbol.whole);
-            }
-        }
+        "symbols" => write_symbols(shown, text, structure.symbols()),
         "definitions" => write_spans(shown, text, structure.definitions()),
-        "folds" => {
-            for fold in structure.folds() {
-                shown.debugged(" ", &fold.kind);
-                write_span(shown, text, fold.span);
-            }
-        }
+        "folds" => write_folds(shown, text, structure.folds()),
         "names" => write_names(shown, text, structure.names()),
         _ => shown.word("no such list"),
+    }
+}
+
+fn write_symbols(shown: &mut Shown, text: &str, symbols: &[Symbol]) {
+    for symbol in symbols {
+        write_span(shown, text, symbol.whole);
+    }
+}
+
+fn write_folds(shown: &mut Shown, text: &str, folds: &[Fold]) {
+    for fold in folds {
+        shown.debugged(" ", &fold.kind);
+        write_span(shown, text, fold.span);
     }
 }
 
@@ -48,22 +52,24 @@ fn write_list(shown: &mut Shown, what: &str, text: &str, structure: &Structure) 
 /// - `sizes`: how many symbols the text has, if the ranges around it are at most 200
 pub fn write_at_offset(shown: &mut Shown, what: &str, row: &str) {
     let (offset, text) = pair(row, " in ");
-    let Ok(offset) = offset.parse::<usize>() else {
-        return shown.word("no offset");
-    };
-    if what != "name" && what != "hover" {
-        match selection_at(shown.alloc(), text, offset) {
-            Ok(selection) => write_selection(shown, what, text, &selection),
-            Err(_) => shown.leave_out(),
-        }
+    match offset.parse::<usize>() {
+        Ok(offset) if what == "name" || what == "hover" => write_named(shown, what, text, offset),
+        Ok(offset) => write_around(shown, what, text, offset),
+        Err(_) => shown.word("no offset"),
     }
+}
+
+fn write_named(shown: &mut Shown, what: &str, text: &str, offset: usize) {
     match Structure::new(shown.alloc(), text) {
-        Ok(structure) => match what {
-            "name" => write_name(shown, text, offset, &structure),
-            "hover" => write_hover(shown, text, offset, &structure),
-            "sizes" => shown.item("", &structure.symbols().len()),
-            _ => {}
-        },
+        Ok(structure) if what == "name" => write_name(shown, text, offset, &structure),
+        Ok(structure) => write_hover(shown, text, offset, &structure),
+        Err(_) => shown.leave_out(),
+    }
+}
+
+fn write_around(shown: &mut Shown, what: &str, text: &str, offset: usize) {
+    match selection_at(shown.alloc(), text, offset) {
+        Ok(selection) => write_selection(shown, what, text, &selection),
         Err(_) => shown.leave_out(),
     }
 }
@@ -71,15 +77,24 @@ pub fn write_at_offset(shown: &mut Shown, what: &str, row: &str) {
 fn write_selection(shown: &mut Shown, what: &str, text: &str, selection: &[Span]) {
     match what {
         "selection" => write_spans(shown, text, selection),
-        "ranges" => {
-            shown.item("", &selection.len());
-            if let Some(last) = selection.last() {
-                shown.item(" up to ", &last.start);
-                shown.item(" ", &last.end);
-            }
-        }
-        "sizes" if selection.len() <= 200 => {}
+        "ranges" => write_ranges(shown, selection),
+        "sizes" if selection.len() <= 200 => write_size(shown, text),
         _ => shown.word("too much, or nothing to ask"),
+    }
+}
+
+fn write_ranges(shown: &mut Shown, selection: &[Span]) {
+    shown.item("", &selection.len());
+    if let Some(last) = selection.last() {
+        shown.item(" up to ", &last.start);
+        shown.item(" ", &last.end);
+    }
+}
+
+fn write_size(shown: &mut Shown, text: &str) {
+    match Structure::new(shown.alloc(), text) {
+        Ok(structure) => shown.item("", &structure.symbols().len()),
+        Err(_) => shown.leave_out(),
     }
 }
 

@@ -16,17 +16,20 @@ use text_edits::{
 pub fn write_answer(shown: &mut Shown, what: &str, row: &str) {
     let (asked, text) = pair(row, " in ");
     let (what, encoding) = pair(what, " ");
-    let encoding = match encoding {
-        "utf-8" => Encoding::Utf8,
-        "utf-16" => Encoding::Utf16,
-        "utf-32" => Encoding::Utf32,
-        "replaced" => return write_replaced(shown, asked, text),
-        _ => return shown.word("no such encoding"),
-    };
-    match what {
-        "offset" | "position" => write_place(shown, asked, encoding, text),
-        "applied" => write_applied(shown, asked, encoding, text),
-        _ => shown.word("nothing to ask"),
+    match encoding_named(encoding) {
+        Some(encoding) if what == "applied" => write_applied(shown, asked, encoding, text),
+        Some(encoding) => write_place(shown, asked, encoding, text),
+        None if encoding == "replaced" => write_replaced(shown, asked, text),
+        None => shown.word("no such encoding"),
+    }
+}
+
+fn encoding_named(word: &str) -> Option<Encoding> {
+    match word {
+        "utf-8" => Some(Encoding::Utf8),
+        "utf-16" => Some(Encoding::Utf16),
+        "utf-32" => Some(Encoding::Utf32),
+        _ => None,
     }
 }
 
@@ -55,25 +58,26 @@ fn write_place(shown: &mut Shown, asked: &str, encoding: Encoding, text: &str) {
         let found = offset_of(text, encoding, position);
         let by_index = index.offset_of(text, encoding, position);
         shown.item("", &found);
-        write_others(
-            shown,
-            found,
-            by_index,
-            document.offset_of(encoding, position),
-        );
+        let of_document = document.offset_of(encoding, position);
+        write_others(shown, found, by_index, of_document);
     } else {
-        let offset = number_in(asked);
-        let found = position_of(text, encoding, offset);
-        let by_index = index.position_of(text, encoding, offset);
-        shown.item("", &found.line);
-        shown.item(":", &found.character);
-        write_others(
-            shown,
-            found,
-            by_index,
-            document.position_of(encoding, offset),
-        );
+        write_position(shown, number_in(asked), encoding, &index, &document);
     }
+}
+
+fn write_position(
+    shown: &mut Shown,
+    offset: usize,
+    encoding: Encoding,
+    index: &LineIndex,
+    document: &Document,
+) {
+    let found = position_of(document.text(), encoding, offset);
+    let by_index = index.position_of(document.text(), encoding, offset);
+    shown.item("", &found.line);
+    shown.item(":", &found.character);
+    let of_document = document.position_of(encoding, offset);
+    write_others(shown, found, by_index, of_document);
 }
 
 // Writes what the index of a text and a document of it have, unless that is what the text has.
@@ -89,7 +93,6 @@ fn write_others<T: Copy + PartialEq + Debug>(
     }
 }
 
-// Writes the text with something else in a range, and what a document of it becomes, if that is another text or has other positions.
 fn write_applied(shown: &mut Shown, asked: &str, encoding: Encoding, text: &str) {
     let (start, asked) = pair(asked, " ");
     let (end, new) = pair(asked, " ");
@@ -97,6 +100,11 @@ fn write_applied(shown: &mut Shown, asked: &str, encoding: Encoding, text: &str)
         start: position_in(start),
         end: position_in(end),
     };
+    write_changed(shown, range, new, encoding, text);
+}
+
+// Writes the text with something else in a range, and what a document of it becomes, if that is another text or has other positions.
+fn write_changed(shown: &mut Shown, range: Range, new: &str, encoding: Encoding, text: &str) {
     let alloc = shown.alloc();
     let (Ok(mut document), Ok(found)) = (
         document_of(alloc, text),
@@ -107,13 +115,17 @@ fn write_applied(shown: &mut Shown, asked: &str, encoding: Encoding, text: &str)
     if document.apply(alloc, encoding, range, new).is_err() {
         shown.leave_out();
     }
-    shown.item("'", &found);
-    if found.as_str() != document.text() {
+    write_document(shown, found.as_str(), encoding, &document);
+}
+
+fn write_document(shown: &mut Shown, text: &str, encoding: Encoding, document: &Document) {
+    shown.item("'", &text);
+    if text != document.text() {
         shown.item("', of a document '", &document.text());
     }
     shown.word("'");
-    for offset in 0..=found.len() {
-        let place = position_of(&found, encoding, offset);
+    for offset in 0..=text.len() {
+        let place = position_of(text, encoding, offset);
         write_others(shown, place, place, document.position_of(encoding, offset));
     }
 }

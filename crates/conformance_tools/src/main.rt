@@ -22,7 +22,7 @@ mod reports;
 mod rewritten;
 
 use rewritten::Rewriting;
-use rows::{Calls, Row, Shown, judge, pair, words};
+use rows::{Calls, Row, Shown, judge, pair, try_call, words};
 use std::test::Fail;
 
 /// The calls of this program's tables.
@@ -31,27 +31,48 @@ struct OfTools;
 
 impl Calls for OfTools {
     fn answer(self, shown: &mut Shown, call: &str, text: &str) {
-        match pair(call, " ") {
-            ("minified", asked) => rewritten::answer(shown, Rewriting::Minified, asked, text),
-            ("formatted", asked) => rewritten::answer(shown, Rewriting::Formatted, asked, text),
-            ("printed", what) => printed::answer(shown, what, text),
-            ("json", part) => json::answer(shown, part, text),
-            ("front", limits) => reports::front(shown, limits, text),
-            ("exact", what) => reports::exact(shown, what, text),
-            ("bench", what) => bench::write_digest(shown, what, text),
-            ("gql", part) => recovery::answer(shown, part, text),
-            ("text", what) => edits::write_answer(shown, what, text),
-            ("editor", what) => editor::write_listed(shown, what, text),
-            ("at", what) => editor::write_at_offset(shown, what, text),
-            ("block", "string written") => blocks::write_block(shown, text),
-            ("", "sheet") => blocks::write_sheet(shown, text),
-            ("", "cuts") => cuts::write_cuts(shown, text),
-            _ => shown.word("no such call"),
+        let (what, asked) = pair(call, " ");
+        match what {
+            "minified" => rewritten::answer(shown, Rewriting::Minified, asked, text),
+            "formatted" => rewritten::answer(shown, Rewriting::Formatted, asked, text),
+            "printed" => printed::answer(shown, asked, text),
+            "json" => json::answer(shown, asked, text),
+            _ => answer_report(shown, call, text),
         }
     }
 
     fn try_row(self, shown: &mut Shown, row: &Row<'_>) -> bool {
-        refused::try_row(shown, row)
+        try_call(shown, row, refused::given_to(shown.alloc(), row))
+    }
+}
+
+fn answer_report(shown: &mut Shown, call: &str, text: &str) {
+    let (what, asked) = pair(call, " ");
+    match what {
+        "front" => reports::front(shown, asked, text),
+        "exact" => reports::exact(shown, asked, text),
+        "gql" => recovery::answer(shown, asked, text),
+        "bench" => bench::write_digest(shown, asked, text),
+        _ => answer_editor(shown, call, text),
+    }
+}
+
+fn answer_editor(shown: &mut Shown, call: &str, text: &str) {
+    let (what, asked) = pair(call, " ");
+    match what {
+        "text" => edits::write_answer(shown, asked, text),
+        "editor" => editor::write_listed(shown, asked, text),
+        "at" => editor::write_at_offset(shown, asked, text),
+        _ => answer_other(shown, call, text),
+    }
+}
+
+fn answer_other(shown: &mut Shown, call: &str, text: &str) {
+    match call {
+        "block string written" => blocks::write_block(shown, text),
+        "sheet" => blocks::write_sheet(shown, text),
+        "cuts" => cuts::write_cuts(shown, text),
+        _ => shown.word("no such call"),
     }
 }
 

@@ -17,6 +17,12 @@ pub fn answer(shown: &mut Shown, part: &str, text: &str) {
         "diagnoses schema" => diagnoses::told(shown, Language::Schemas, text),
         "mended query" => diagnoses::mended(shown, Language::Requests, text),
         "mended schema" => diagnoses::mended(shown, Language::Schemas, text),
+        _ => answer_string(shown, part, text),
+    }
+}
+
+fn answer_string(shown: &mut Shown, part: &str, text: &str) {
+    match part {
         "unclosed string" => strings::unclosed(shown, text),
         "unclosed string from" => strings::unclosed_from(shown, text),
         "opening" => strings::opening(shown, text),

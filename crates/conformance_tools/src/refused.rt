@@ -3,12 +3,12 @@ use crate::rewritten::{Rewriting, rewritten};
 use graphql_parser::types::{ExecutableDocument, ServiceDocument};
 use graphql_parser::{parse_query, parse_schema};
 use graphql_printer::{print_query, print_schema};
-use rows::{Input, Parser, Row, Shown, narrow, show, show_error, show_made, try_call};
+use rows::{Input, Parser, Row, Shown, narrow, show, show_error, show_made};
 use std::alloc::Global;
 
-// What a call is given besides the text of its row.
+/// What a call is given besides the text of its row.
 #[derive(Drop)]
-enum Given {
+pub enum Given {
     Nothing,
     Request(ExecutableDocument),
     File(ServiceDocument),
@@ -25,18 +25,8 @@ impl Input for Given {
     }
 }
 
-/// Tries the call of a row. False where there is no memory for what it is given.
-pub fn try_row(shown: &mut Shown, row: &Row<'_>) -> bool {
-    match given_to(shown.alloc(), row) {
-        Some(given) => {
-            try_call(shown, row, given);
-            true
-        }
-        None => false,
-    }
-}
-
-fn given_to(alloc: Global, row: &Row<'_>) -> Option<Given> {
+/// A tree, or a text alone; if there is memory for it.
+pub fn given_to(alloc: Global, row: &Row<'_>) -> Option<Given> {
     Some(match row.kind {
         "query tree" => Given::Request(parse_query(alloc, row.text).ok()?),
         "schema tree" => Given::File(parse_schema(alloc, row.text).ok()?),

@@ -23,7 +23,7 @@ pub fn attempts<A: Attempt>(alloc: Global, attempted: &mut A) -> Result<bool, Al
     let mut blocks = Vec::with_capacity(alloc, BLOCKS)?;
     let mut pieces = Vec::with_capacity(alloc, PIECES)?;
     take_pieces(alloc, &mut pieces, &mut blocks)?;
-    if !take_all(alloc, &mut blocks)? {
+    if !take_all(alloc, &mut blocks) {
         return Ok(false);
     }
     attempted.attempt(alloc);
@@ -39,7 +39,7 @@ pub fn attempts<A: Attempt>(alloc: Global, attempted: &mut A) -> Result<bool, Al
 pub fn all_but(alloc: Global, bytes: usize) -> Result<Option<Blocks>, AllocError> {
     let mut blocks = Vec::with_capacity(alloc, BLOCKS)?;
     let room: Vec<u8> = Vec::with_capacity(alloc, bytes)?;
-    if !take_all(alloc, &mut blocks)? {
+    if !take_all(alloc, &mut blocks) {
         return Ok(None);
     }
     drop(room);
@@ -48,35 +48,36 @@ pub fn all_but(alloc: Global, bytes: usize) -> Result<Option<Blocks>, AllocError
 
 // Takes all memory that is left, in blocks whose bytes are never touched. False where more blocks would
 // be needed than `blocks` has room for.
-fn take_all(alloc: Global, blocks: &mut Blocks) -> Result<bool, AllocError> {
+fn take_all(alloc: Global, blocks: &mut Blocks) -> bool {
     let mut size = 1usize << 34;
     for _ in 0..24 {
-        if !take(alloc, blocks, size)? {
-            return Ok(false);
+        if !take(alloc, blocks, size) {
+            return false;
         }
         size /= 2;
     }
     // Of small blocks an allocator keeps some of each size.
     for i in 0..75usize {
-        if !take(alloc, blocks, 1208 - 16 * i)? {
-            return Ok(false);
+        if !take(alloc, blocks, 1208 - 16 * i) {
+            return false;
         }
     }
-    Ok(true)
+    true
 }
 
-// Takes blocks of this size while there are some.
-fn take(alloc: Global, blocks: &mut Blocks, size: usize) -> Result<bool, AllocError> {
-    for _ in 0..BLOCKS {
-        if blocks.len() == blocks.capacity() {
-            return Ok(false);
+// Takes blocks of this size while there are some. False where `blocks` has no room for more.
+fn take(alloc: Global, blocks: &mut Blocks, size: usize) -> bool {
+    for _ in blocks.len()..blocks.capacity() {
+        match Vec::with_capacity(alloc, size) {
+            Ok(block) => {
+                if blocks.push(block).is_err() {
+                    return false;
+                }
+            }
+            Err(_) => return true,
         }
-        let Ok(block) = Vec::with_capacity(alloc, size) else {
-            break;
-        };
-        blocks.push(block)?;
     }
-    Ok(true)
+    false
 }
 
 // Takes blocks of growing sizes, and after each of them a small one in `between`, so that what is given back of them

@@ -12,17 +12,6 @@ pub fn number_in(word: &str) -> usize {
     word.parse().unwrap_or(usize::MAX)
 }
 
-/// The three numbers of a text, with blanks between them.
-pub fn three_numbers(text: &str) -> Option<(usize, usize, usize)> {
-    let (first, rest) = pair(text, " ");
-    let (second, third) = pair(rest, " ");
-    Some((
-        first.parse().ok()?,
-        second.parse().ok()?,
-        third.parse().ok()?,
-    ))
-}
-
 /// What a text in the notation of the rows stands for. A bracket that is not closed stands for itself.
 pub fn meant(alloc: Global, text: &str) -> Result<String, AllocError> {
     let mut shown = Shown::new(alloc, true);
@@ -30,39 +19,43 @@ pub fn meant(alloc: Global, text: &str) -> Result<String, AllocError> {
     shown.finish()
 }
 
-// Adds the words of a text, with one blank between them.
-pub fn write_in_one_line(shown: &mut Shown, text: &str) {
-    for (index, word) in text.split_whitespace().enumerate() {
-        shown.word(if index > 0 { " " } else { "" });
+// Adds the words of a text, and after each a blank.
+pub fn write_words(shown: &mut Shown, text: &str) {
+    for word in text.split_whitespace() {
         shown.word(word);
+        shown.word(" ");
     }
 }
 
 // Adds what a text in the notation of the rows stands for.
 pub fn write_meant(shown: &mut Shown, text: &str) {
-    for (index, part) in text.split('⟨').enumerate() {
-        match part.split_once('⟩') {
-            Some((inside, plain)) if index > 0 => {
-                write_inside(shown, inside);
-                write_plain(shown, plain);
-            }
-            _ => {
-                shown.word(if index > 0 { "⟨" } else { "" });
-                write_plain(shown, part);
-            }
+    let mut parts = text.split('⟨');
+    write_plain(shown, parts.next().unwrap_or(""));
+    for part in parts {
+        if let Some((inside, plain)) = part.split_once('⟩') {
+            write_inside(shown, inside);
+            write_plain(shown, plain);
+        } else {
+            shown.word("⟨");
+            write_plain(shown, part);
         }
     }
 }
 
 fn write_plain(shown: &mut Shown, text: &str) {
     for c in text.chars() {
-        shown.letter(match c {
-            '␊' => '\n',
-            '␍' => '\r',
-            '␉' => '\t',
-            '␠' | '\u{B}' => ' ',
-            other => other,
-        });
+        shown.letter(plain(c));
+    }
+}
+
+// The character that one stands for.
+fn plain(c: char) -> char {
+    match c {
+        '␊' => '\n',
+        '␍' => '\r',
+        '␉' => '\t',
+        '␠' | '\u{B}' => ' ',
+        other => other,
     }
 }
 
@@ -83,17 +76,12 @@ fn write_inside(shown: &mut Shown, inside: &str) {
 
 // Adds the text this many times, each time with its number in place of each №.
 fn write_times(shown: &mut Shown, count: usize, text: &str) {
-    let mut plain = Shown::new(shown.alloc(), true);
-    write_plain(&mut plain, text);
-    let Some(plain) = plain.whole() else {
-        return shown.leave_out();
-    };
     for index in 0..count {
-        for (place, part) in plain.split('№').enumerate() {
-            if place > 0 {
-                shown.item("", &index);
+        for c in text.chars() {
+            match c {
+                '№' => shown.item("", &index),
+                other => shown.letter(plain(other)),
             }
-            shown.word(part);
         }
     }
 }

@@ -1,5 +1,5 @@
 //! The two parsers, and limits in rows.
-use crate::notation::three_numbers;
+use crate::notation::{number_in, pair};
 use graphql_parser::{
     Error, Limits, Memory, check_query_within, check_schema_within, parse_query_within,
     parse_schema_within,
@@ -30,10 +30,11 @@ pub fn refused_within(
     }
 }
 
-/// The limits of three numbers in one text.
+/// The limits of three numbers in one text, with blanks between them.
 pub fn limits_of(text: &str) -> Option<Limits> {
-    let (selections, values, types) = three_numbers(text)?;
-    Limits::new(selections, values, types)
+    let (selections, rest) = pair(text, " ");
+    let (values, types) = pair(rest, " ");
+    Limits::new(number_in(selections), number_in(values), number_in(types))
 }
 
 /// Limits within which little may nest.

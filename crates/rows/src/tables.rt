@@ -1,9 +1,11 @@
 //! Tables in files: all of them are judged, and what is found is printed.
 use crate::little_memory::all_but;
-use crate::notation::{pair, write_in_one_line, write_meant};
+use crate::notation::{pair, write_meant, write_words};
 use crate::row::REFUSED;
 use crate::trying::{once, try_row};
 use crate::{Calls, Shown};
+use std::alloc::AllocError;
+use std::fs::DirEntry;
 use std::test::Fail;
 use std::{env, fs, io};
 
@@ -24,18 +26,24 @@ enum Way {
 /// The words of the program, with a blank between two. A word for which there is no memory is left out.
 pub fn words(rt: &HostRuntime) -> Shown {
     let mut words = Shown::new(rt.alloc(), true);
-    if write_words(rt, &mut words).is_err() {
+    if write_arguments(rt, &mut words).is_err() {
         words.leave_out();
     }
     words
 }
 
-fn write_words(rt: &HostRuntime, words: &mut Shown) -> io::Result<()> {
-    for (index, word) in env::args(rt)?.skip(1).enumerate() {
-        words.word(if index > 0 { " " } else { "" });
-        words.item("", &word);
+fn write_arguments(rt: &HostRuntime, words: &mut Shown) -> io::Result<()> {
+    for word in env::args(rt)?.skip(1) {
+        write_word(words, word.as_str());
     }
     Ok(())
+}
+
+fn write_word(words: &mut Shown, word: &str) {
+    if words.whole() != Some("") {
+        words.word(" ");
+    }
+    words.word(word);
 }
 
 /// Judges the tables that the program's words name, as `tokens` for `tables/tokens.rows`, or all; or makes one call `once`. Prints
@@ -43,53 +51,52 @@ fn write_words(rt: &HostRuntime, words: &mut Shown) -> io::Result<()> {
 /// found. Fails if there is such a row.
 pub fn judge<C: Calls>(rt: &HostRuntime, words: &Shown, calls: C) -> Result<(), Fail> {
     match words.whole() {
-        Some("once") => {
-            let told = match io::read_to_string(rt.alloc(), rt.stdin()) {
-                Ok(row) => once(calls, rt.alloc(), row.as_str()),
-                Err(_) => REFUSED,
-            };
-            Ok(println!(rt; "{told}")?)
-        }
-        Some(words) => {
-            let of_tables = judge_folder(rt, words, "tables", calls, Way::Once)?;
-            let of_refused = judge_refused(rt, words, calls)?;
-            if of_tables > 0 || of_refused > 0 {
-                return Err(Fail::new("some rows don't hold"));
-            }
-            Ok(())
-        }
+        Some("once") => Ok(make_once(rt, calls)?),
+        Some(words) => judge_folders(rt, words, calls),
         None => Ok(println!(rt; "{REFUSED}")?),
     }
 }
 
-// Judges the tables of `refused`. Most of the memory is taken once, for all rows.
-fn judge_refused<C: Calls>(rt: &HostRuntime, words: &str, calls: C) -> Result<usize, Fail> {
-    let folder = "refused";
-    if files_in(rt, words, folder)?.is_empty() {
-        return Ok(0);
-    }
-    let Some(held) = all_but(rt.alloc(), ROOM_FOR_ROWS)? else {
-        judge_folder(rt, words, folder, calls, Way::Refused { has_end: false })?;
-        return Err(Fail::new("memory has no end here: each call was made once"));
+fn make_once<C: Calls>(rt: &HostRuntime, calls: C) -> io::Result<()> {
+    let told = match io::read_to_string(rt.alloc(), rt.stdin()) {
+        Ok(row) => once(calls, rt.alloc(), row.as_str()),
+        Err(_) => REFUSED,
     };
-    let wrong = judge_folder(rt, words, folder, calls, Way::Refused { has_end: true });
-    drop(held);
-    wrong
+    println!(rt; "{told}")
 }
 
-// Judges the files in a folder, and returns how many rows don't hold.
-fn judge_folder<C: Calls>(
+fn judge_folders<C: Calls>(rt: &HostRuntime, words: &str, calls: C) -> Result<(), Fail> {
+    let tables_hold = judge_files(rt, calls, Way::Once, &files_in(rt, words, "tables")?)?;
+    let files = files_in(rt, words, "refused")?;
+    if (files.is_empty() || judge_refused(rt, calls, &files)?) && tables_hold {
+        return Ok(());
+    }
+    Err(Fail::new("some rows don't hold"))
+}
+
+// Judges files of the folder `refused`. Most of the memory is taken once, for all rows. Whether all rows hold.
+fn judge_refused<C: Calls>(rt: &HostRuntime, calls: C, files: &[String]) -> Result<bool, Fail> {
+    let held = all_but(rt.alloc(), ROOM_FOR_ROWS)?;
+    let has_end = held.is_some();
+    let hold = judge_files(rt, calls, Way::Refused { has_end }, files)?;
+    if has_end {
+        return Ok(hold);
+    }
+    Err(Fail::new("memory has no end here: each call was made once"))
+}
+
+// Judges files. Whether all rows hold.
+fn judge_files<C: Calls>(
     rt: &HostRuntime,
-    words: &str,
-    folder: &str,
     calls: C,
     way: Way,
-) -> Result<usize, Fail> {
-    let mut wrong = 0usize;
-    for file in &files_in(rt, words, folder)? {
-        wrong = wrong.saturating_add(judge_file(rt, calls, way, file.as_str())?);
+    files: &[String],
+) -> Result<bool, Fail> {
+    let mut hold = true;
+    for file in files {
+        hold = judge_file(rt, calls, way, file.as_str())? && hold;
     }
-    Ok(wrong)
+    Ok(hold)
 }
 
 // The files in a folder that the program's words name, in order: a name stands for the file with the ending `.rows`
@@ -108,12 +115,16 @@ fn add_files(
     files: &mut Vec<String>,
 ) -> Result<(), Fail> {
     for entry in fs::read_dir(rt, folder)? {
-        let entry = entry?;
+        add_file(words, &entry?, files)?;
+    }
+    Ok(())
+}
+
+fn add_file(words: &str, entry: &DirEntry, files: &mut Vec<String>) -> Result<(), AllocError> {
+    let name = entry.file_name();
+    if is_asked_for(words, name.strip_suffix(".rows").unwrap_or(name)) {
         let path = entry.path();
-        let name = path.as_str().rsplit('/').next().unwrap_or("");
-        if is_asked_for(words, name.strip_suffix(".rows").unwrap_or(name)) {
-            files.push(String::from_str(rt.alloc(), path.as_str())?)?;
-        }
+        files.push(String::from_str(*files.allocator(), path.as_str())?)?;
     }
     Ok(())
 }
@@ -128,148 +139,159 @@ fn is_asked_for(words: &str, name: &str) -> bool {
     words.is_empty()
 }
 
-// Judges a file, and returns how many of its rows don't hold.
-fn judge_file<C: Calls>(rt: &HostRuntime, calls: C, way: Way, file: &str) -> Result<usize, Fail> {
-    let text = fs::read_to_string(rt, file)?;
-    let mut judged = Judged::new(rt, calls, way, file);
-    for table in text.as_str().split("\n== ") {
-        judged.judge_table(table.strip_prefix("== ").unwrap_or(table));
-    }
-    print!(rt; "{}", judged.report.whole().unwrap_or("out of memory\n"))?;
-    Ok(judged.wrong)
+// Judges a file. Whether all of its rows hold.
+fn judge_file<C: Calls>(rt: &HostRuntime, calls: C, way: Way, file: &str) -> Result<bool, Fail> {
+    let mut report = Shown::new(rt.alloc(), true);
+    let hold = judge_text(
+        &mut report,
+        calls,
+        way,
+        file,
+        &fs::read_to_string(rt, file)?,
+    );
+    print!(rt; "{}", report.whole().unwrap_or("out of memory\n"))?;
+    Ok(hold)
 }
 
-// A file that is judged, and what is printed of it.
-#[derive(Drop)]
-struct Judged<'a, C> {
+// A table: its file, the name of its call, and how that is made.
+#[derive(Clone, Copy)]
+struct Table<'a, C> {
     calls: C,
     way: Way,
     file: &'a str,
-    report: Shown,
-    // How many lines were gone over, on which of them the row begins, how many rows of the table were judged, and how
-    // many rows of the file don't hold.
-    line: usize,
-    first: usize,
-    rows: usize,
-    wrong: usize,
-    // The row as it stands in the file, its text, what its call makes of that, and what is expected.
-    row: Shown,
-    text: Shown,
-    found: Shown,
-    wanted: Shown,
+    call: &'a str,
 }
 
-impl<'a, C: Calls> Judged<'a, C> {
-    fn new(rt: &HostRuntime, calls: C, way: Way, file: &'a str) -> Judged<'a, C> {
-        let alloc = rt.alloc();
-        Judged {
+// How many rows of a table were judged, and whether all of them hold.
+#[derive(Drop)]
+struct Judged {
+    rows: usize,
+    hold: bool,
+}
+
+// Judges the tables of a file. Whether all rows hold.
+fn judge_text<C: Calls>(report: &mut Shown, calls: C, way: Way, file: &str, text: &str) -> bool {
+    let mut line = 0usize;
+    let mut hold = true;
+    for table in text.split("\n== ") {
+        let (call, rows) = pair(table.strip_prefix("== ").unwrap_or(table), "\n");
+        let table = Table {
             calls,
             way,
             file,
-            report: Shown::new(alloc, true),
-            line: 0,
-            first: 0,
-            rows: 0,
-            wrong: 0,
-            row: Shown::new(alloc, true),
-            text: Shown::new(alloc, true),
-            found: Shown::new(alloc, true),
-            wanted: Shown::new(alloc, true),
-        }
-    }
-
-    // Judges a table, which begins with the name of its call.
-    fn judge_table(&mut self, table: &str) {
-        let (call, rows) = pair(table, "\n");
-        self.rows = 0;
-        self.pass_lines(1);
-        if let Some((text, answer)) = rows.rsplit_once("\n⇒\n") {
-            self.first = self.line;
-            self.text.word(text);
-            write_wanted(&mut self.wanted, &mut self.found, answer);
-            self.judge(call);
-            self.pass_lines(rows.split('\n').count());
-        } else {
-            self.judge_rows(call, rows);
-        }
-        self.report.item("", &self.file);
-        self.report.item(": ", &call);
-        self.report.item(": ", &self.rows);
-        self.report
-            .word(if self.rows == 1 { " row\n" } else { " rows\n" });
-    }
-
-    fn pass_lines(&mut self, count: usize) {
-        self.line = self.line.saturating_add(count);
-    }
-
-    // Judges rows, of which each begins in a line of its own and goes on in those that begin with two blanks.
-    fn judge_rows(&mut self, call: &str, rows: &str) {
-        for line in rows.split('\n') {
-            self.pass_lines(1);
-            if let Some(more) = line.strip_prefix("  ") {
-                self.row.word(GOES_ON);
-                self.row.word(more);
-            } else {
-                self.end_row(call);
-                self.first = self.line;
-                self.row.word(line);
-            }
-        }
-        self.end_row(call);
-    }
-
-    // Judges the row that has ended, if it is one.
-    fn end_row(&mut self, call: &str) {
-        let row = self.row.whole().unwrap_or("out of memory");
-        if !row.is_empty() && !row.starts_with("-- ") {
-            let (text, answer) = pair(row, " ⇒");
-            write_meant(&mut self.text, text.trim_ascii_end());
-            write_wanted(&mut self.wanted, &mut self.found, answer);
-            self.judge(call);
-        }
-        self.row.clear();
-    }
-
-    // Makes the call of a row, and reports what was expected and what was found, unless that is the same.
-    fn judge(&mut self, call: &str) {
-        let (calls, way) = (self.calls, self.way);
-        make_call(
-            calls,
-            way,
-            &mut self.found,
             call,
-            self.text.whole().unwrap_or(""),
-        );
-        let found = self.found.whole().unwrap_or("out of memory");
-        let wanted = self.wanted.whole().unwrap_or("out of room");
-        self.rows = self.rows.saturating_add(1);
-        if found.trim_ascii() != wanted.trim_ascii() {
-            self.wrong = self.wrong.saturating_add(1);
-            self.report.item("", &self.file);
-            self.report.item(":", &self.first);
-            self.report.item(": ", &call);
-            self.report.item("\n  expected: ", &wanted);
-            self.report.item("\n  found:    ", &found);
-            self.report.word("\n");
+        };
+        line = line.saturating_add(1);
+        hold = judge_table(report, &table, line, rows) && hold;
+        line = line.saturating_add(rows.split('\n').count());
+    }
+    hold
+}
+
+// Judges a table, whose name stands in this line, and reports how many rows it has. Whether all of them hold.
+fn judge_table<C: Calls>(
+    report: &mut Shown,
+    table: &Table<'_, C>,
+    line: usize,
+    rows: &str,
+) -> bool {
+    let mut judged = Judged {
+        rows: 0,
+        hold: true,
+    };
+    match rows.rsplit_once("\n⇒\n") {
+        Some((text, answer)) => judge_call(report, table, &mut judged, line, text, answer),
+        None => judge_rows(report, table, &mut judged, line, rows),
+    }
+    report.word(table.file);
+    report.word(": ");
+    report.word(table.call);
+    report.item(": ", &judged.rows);
+    report.word(if judged.rows == 1 {
+        " row\n"
+    } else {
+        " rows\n"
+    });
+    judged.hold
+}
+
+// Judges the rows after this line, of which each begins in a line of its own and goes on in those that begin with two blanks.
+fn judge_rows<C: Calls>(
+    report: &mut Shown,
+    table: &Table<'_, C>,
+    judged: &mut Judged,
+    mut line: usize,
+    rows: &str,
+) {
+    let mut row = Shown::new(report.alloc(), true);
+    let mut first = line;
+    for text in rows.split('\n') {
+        line = line.saturating_add(1);
+        if let Some(more) = text.strip_prefix("  ") {
+            row.word(GOES_ON);
+            row.word(more);
+        } else {
+            judge_row(report, table, judged, first, &row);
+            first = line;
+            row.clear();
+            row.word(text);
         }
-        self.text.clear();
-        self.found.clear();
-        self.wanted.clear();
+    }
+    judge_row(report, table, judged, first, &row);
+}
+
+// Judges a row, if it is one.
+fn judge_row<C: Calls>(
+    report: &mut Shown,
+    table: &Table<'_, C>,
+    judged: &mut Judged,
+    line: usize,
+    row: &Shown,
+) {
+    let row = row.whole().unwrap_or("out of memory");
+    if !row.is_empty() && !row.starts_with("-- ") {
+        let (text, answer) = pair(row, " ⇒");
+        let mut meant = Shown::new(report.alloc(), true);
+        write_meant(&mut meant, text.trim_ascii_end());
+        let text = meant.whole().unwrap_or("");
+        judge_call(report, table, judged, line, text, answer);
     }
 }
 
-// Writes what the call of a row makes of its text.
-fn make_call<C: Calls>(calls: C, way: Way, shown: &mut Shown, call: &str, text: &str) {
-    match way {
-        Way::Once => calls.answer(shown, call, text),
-        Way::Refused { has_end } => try_row(calls, shown, has_end, call, text),
+// Makes the call of a row, and reports what was expected and what was found, unless that is the same.
+fn judge_call<C: Calls>(
+    report: &mut Shown,
+    table: &Table<'_, C>,
+    judged: &mut Judged,
+    line: usize,
+    text: &str,
+    answer: &str,
+) {
+    let mut wanted = Shown::new(report.alloc(), true);
+    write_wanted(&mut wanted, answer);
+    let mut found = Shown::new(report.alloc(), true);
+    match table.way {
+        Way::Once => table.calls.answer(&mut found, table.call, text),
+        Way::Refused { has_end } => try_row(table.calls, &mut found, has_end, table.call, text),
+    }
+    let wanted = wanted.whole().unwrap_or("out of memory");
+    let found = found.whole().unwrap_or("out of memory");
+    judged.rows = judged.rows.saturating_add(1);
+    if found.trim_ascii() != wanted.trim_ascii() {
+        judged.hold = false;
+        report.word(table.file);
+        report.item(":", &line);
+        report.item(": ", &table.call);
+        report.item("\n  expected: ", &wanted);
+        report.item("\n  found:    ", &found);
+        report.word("\n");
     }
 }
 
 // Writes what the answer of a row stands for, by way of the answer in one line.
-fn write_wanted(wanted: &mut Shown, line: &mut Shown, answer: &str) {
-    write_in_one_line(line, answer);
-    write_meant(wanted, line.whole().unwrap_or("out of room"));
-    line.clear();
+fn write_wanted(wanted: &mut Shown, answer: &str) {
+    let mut line = Shown::new(wanted.alloc(), true);
+    write_words(&mut line, answer);
+    let line = line.whole().unwrap_or("out of memory");
+    write_meant(wanted, line.trim_ascii_end());
 }

@@ -27,16 +27,19 @@ pub fn try_row<C: Calls>(calls: C, shown: &mut Shown, has_end: bool, call: &str,
 pub fn once<C: Calls>(calls: C, alloc: Global, told: &str) -> &'static str {
     let (table, row) = pair(told, "\n");
     let (text, answer) = pair(row, " ⇒ ");
-    match (meant(alloc, text), meant(alloc, answer.trim_ascii())) {
-        (Ok(text), Ok(answer)) => {
-            made_once(
-                calls,
-                alloc,
-                &Row::new(table, text.as_str(), false),
-                answer.as_str(),
-            )
+    match meant(alloc, text) {
+        Ok(text) => {
+            let row = Row::new(table, text.as_str(), false);
+            once_of(calls, alloc, &row, answer)
         }
-        _ => REFUSED,
+        Err(_) => REFUSED,
+    }
+}
+
+fn once_of<C: Calls>(calls: C, alloc: Global, row: &Row<'_>, answer: &str) -> &'static str {
+    match meant(alloc, answer.trim_ascii()) {
+        Ok(answer) => made_once(calls, alloc, row, answer.as_str()),
+        Err(_) => REFUSED,
     }
 }
 
@@ -55,12 +58,16 @@ fn made_once<C: Calls>(calls: C, alloc: Global, row: &Row<'_>, answer: &str) -> 
 }
 
 /// Makes the call of a row, and shows its answer. Where memory has an end the call is then made there, and how it must
-/// not end is shown in place of its answer.
-pub fn try_call<I: Input>(shown: &mut Shown, row: &Row<'_>, mut input: I) {
+/// not end is shown in place of its answer. False where there was no memory for what the call is given.
+pub fn try_call<I: Input>(shown: &mut Shown, row: &Row<'_>, input: Option<I>) -> bool {
+    let Some(mut input) = input else {
+        return false;
+    };
     make(row, &mut input, shown);
     if row.has_end {
         try_at_end(row, input, shown);
     }
+    true
 }
 
 fn make<I: Input>(row: &Row<'_>, input: &mut I, shown: &mut Shown) {

@@ -88,12 +88,16 @@ pub fn write_each_call(shown: &mut Shown, parser: Parser, view: &str, text: &str
     let mut limited = Shown::new(shown.alloc(), true);
     write_limited(&mut limited, parser, view, text, Limits::default());
     let mut from = Shown::new(shown.alloc(), true);
-    let (tokens, others) = (&mut Tokens::new(text), &mut Tokens::new(text));
-    write_from(&mut from, parser, view, tokens, others);
+    write_from_first(&mut from, parser, view, text);
     if limited.whole() != shown.whole() || from.whole() != shown.whole() {
         shown.item(", limited ", &limited.whole().unwrap_or("out of memory"));
         shown.item(", from tokens ", &from.whole().unwrap_or("out of memory"));
     }
+}
+
+fn write_from_first(shown: &mut Shown, parser: Parser, view: &str, text: &str) {
+    let (tokens, others) = (&mut Tokens::new(text), &mut Tokens::new(text));
+    write_from(shown, parser, view, tokens, others);
 }
 
 // Whether a check answers as the parser: both accept, or both return the same error.

@@ -27,18 +27,32 @@ pub fn write_asked(shown: &mut Shown, parser: Parser, asked: &str, text: &str) {
         "taken" => taken::write_counted(shown, parser, "accepted", text),
         "in turn" => write_in_turn(shown, parser, text),
         "limited" => write_within(shown, parser, text),
-        "budgets" => budgets::write_answers(shown, parser, text),
+        _ => write_hostile(shown, parser, asked, text),
+    }
+}
+
+fn write_hostile(shown: &mut Shown, parser: Parser, asked: &str, text: &str) {
+    match asked {
         "beginnings" => hostile::write_beginnings(shown, parser, text),
         "cuts" => hostile::write_cuts(shown, parser, text),
         "quotes" => hostile::write_quotes(shown, parser, text),
         "lines" => hostile::write_lines(shown, parser, text),
+        _ => write_other(shown, parser, asked, text),
+    }
+}
+
+fn write_other(shown: &mut Shown, parser: Parser, asked: &str, text: &str) {
+    match asked {
+        "budgets" => budgets::write_answers(shown, parser, text),
         "short texts" => hostile::write_short_texts(shown, parser, text),
-        view if VIEWS.contains(&view) => {
-            let (asked, text) = pair(text, " in ");
-            write(shown, parser, view, asked, text);
-        }
+        view if VIEWS.contains(&view) => write_viewed(shown, parser, view, text),
         _ => shown.word("no such call"),
     }
+}
+
+fn write_viewed(shown: &mut Shown, parser: Parser, view: &str, text: &str) {
+    let (asked, text) = pair(text, " in ");
+    write(shown, parser, view, asked, text);
 }
 
 fn write_in_turn(shown: &mut Shown, parser: Parser, text: &str) {

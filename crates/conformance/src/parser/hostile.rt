@@ -115,12 +115,19 @@ pub fn write_lines(shown: &mut Shown, parser: Parser, text: &str) {
         lines.word(token.text);
         lines.word("\n");
     }
+    match lines.whole() {
+        Some(lines) => write_taken_alike(shown, parser, text, lines),
+        None => shown.leave_out(),
+    }
+}
+
+fn write_taken_alike(shown: &mut Shown, parser: Parser, text: &str, lines: &str) {
     let mut one = Shown::new(shown.alloc(), false);
     write_counted(&mut one, parser, "whole", text);
     let mut other = Shown::new(shown.alloc(), false);
-    write_counted(&mut other, parser, "whole", lines.whole().unwrap_or(""));
-    match (lines.whole(), one.whole(), other.whole()) {
-        (Some(_), Some(one), Some(other)) => write_both(shown, one, other),
+    write_counted(&mut other, parser, "whole", lines);
+    match (one.whole(), other.whole()) {
+        (Some(one), Some(other)) => write_both(shown, one, other),
         _ => shown.leave_out(),
     }
 }

@@ -4,7 +4,7 @@ use graphql_parser::types::{
     ConstDirective, Directive, ExecutableDocument, Field, OperationDefinition, OperationsIter,
     Selection, ServiceDocument,
 };
-use graphql_parser::value::{ConstValue, Name, Value, ValueView};
+use graphql_parser::value::{ConstValue, ListView, Name, ObjectView, Value, ValueView};
 use graphql_parser::{Positioned, parse_query};
 use rows::Shown;
 use std::alloc::{AllocError, Global};
@@ -94,21 +94,37 @@ fn write_selection(shown: &mut Shown, view: &str, asked: &str, selection: &Selec
 
 // What is seen of the first field.
 fn write_field(shown: &mut Shown, view: &str, asked: &str, field: &Field) {
-    match (view, field.arguments.as_slice(), field.directives.first()) {
-        ("argument", _, directive) => {
-            write_found(shown, field.get_argument(asked));
-            write_argument(shown, asked, directive);
+    match view {
+        "argument" => write_argument(shown, asked, field),
+        "response key" => write_response_key(shown, field),
+        "directive into const" => {
+            if let Some(directive) = field.directives.first() {
+                write_directive(shown, &directive.node);
+            }
         }
-        ("response key", _, _) => write_response_key(shown, field),
-        ("directive into const", _, Some(directive)) => write_directive(shown, &directive.node),
-        ("equality", [one, other], _) => write_equality(shown, &one.1.node, &other.1.node),
-        ("field viewed", [argument, ..], _) => {
-            write_field_viewed(shown, asked, argument.1.node.as_view());
-        }
-        ("into const" | "text" | "viewed", [argument, ..], _) => {
-            write_with_constant(shown, view, &argument.1.node);
-        }
+        _ => write_arguments(shown, view, asked, field.arguments.as_slice()),
+    }
+}
+
+// What is seen of its first two arguments, or of the first.
+fn write_arguments(
+    shown: &mut Shown,
+    view: &str,
+    asked: &str,
+    arguments: &[(Positioned<Name>, Positioned<Value>)],
+) {
+    match arguments {
+        [one, other] if view == "equality" => write_equality(shown, &one.1.node, &other.1.node),
+        [argument, ..] => write_value_seen(shown, view, asked, &argument.1.node),
         _ => {}
+    }
+}
+
+fn write_value_seen(shown: &mut Shown, view: &str, asked: &str, value: &Value) {
+    match view {
+        "field viewed" => write_field_viewed(shown, asked, value.as_view()),
+        "equality" => {}
+        _ => write_with_constant(shown, view, value),
     }
 }
 
@@ -125,15 +141,20 @@ fn write_found<V: Written>(shown: &mut Shown, value: Option<&Positioned<V>>) {
     }
 }
 
-// The argument of a directive, where there is one, and of it as one without variables.
-fn write_argument(shown: &mut Shown, asked: &str, directive: Option<&Positioned<Directive>>) {
-    let Some(directive) = directive else {
-        return;
-    };
+// The argument of a field, and of its first directive, if it has one.
+fn write_argument(shown: &mut Shown, asked: &str, field: &Field) {
+    write_found(shown, field.get_argument(asked));
+    if let Some(directive) = field.directives.first() {
+        write_argument_of(shown, asked, &directive.node);
+    }
+}
+
+// The argument of a directive, and of it as one without variables.
+fn write_argument_of(shown: &mut Shown, asked: &str, directive: &Directive) {
     shown.word(", ");
-    write_found(shown, directive.node.get_argument(asked));
+    write_found(shown, directive.get_argument(asked));
     shown.word(", ");
-    match constant_directive(shown.alloc(), &directive.node) {
+    match constant_directive(shown.alloc(), directive) {
         Ok(Some(constant)) => write_found(shown, constant.get_argument(asked)),
         Ok(None) => shown.word("not constant"),
         Err(_) => shown.leave_out(),
@@ -234,13 +255,17 @@ fn write_with_constant(shown: &mut Shown, view: &str, value: &Value) {
         _ => {}
     }
     shown.word(if view == "into const" { "" } else { " and" });
+    write_constant_of(shown, view, value);
+    if view == "text" && !is_read_back(shown.alloc(), value) {
+        shown.word(", read as another value");
+    }
+}
+
+fn write_constant_of(shown: &mut Shown, view: &str, value: &Value) {
     match constant_of(shown.alloc(), value) {
         Ok(Some(constant)) => write_constant(shown, view, constant),
         Ok(None) => shown.word(" none"),
         Err(_) => shown.leave_out(),
-    }
-    if view == "text" && !is_read_back(shown.alloc(), value) {
-        shown.word(", read as another value");
     }
 }
 
@@ -248,14 +273,16 @@ fn write_constant(shown: &mut Shown, view: &str, constant: ConstValue) {
     match view {
         "text" => shown.item(" ", &constant),
         "viewed" => write_view(shown, constant.as_view()),
-        _ => {
-            constant.write(shown);
-            shown.word(" and ");
-            match constant.into_value(shown.alloc()) {
-                Ok(value) => value.write(shown),
-                Err(_) => shown.leave_out(),
-            }
-        }
+        _ => write_into_value(shown, constant),
+    }
+}
+
+fn write_into_value(shown: &mut Shown, constant: ConstValue) {
+    constant.write(shown);
+    shown.word(" and ");
+    match constant.into_value(shown.alloc()) {
+        Ok(value) => value.write(shown),
+        Err(_) => shown.leave_out(),
     }
 }
 
@@ -339,7 +366,7 @@ fn has_argument(document: &ExecutableDocument, value: &Value) -> bool {
     }
 }
 
-// The case of a value with its parts: of a list or an object how many it has, each by its index and each again in turn.
+// The case of a value with its parts.
 fn write_view(shown: &mut Shown, view: ValueView<'_>) {
     match view {
         ValueView::Variable(name) => shown.item(" variable ", name),
@@ -348,28 +375,37 @@ fn write_view(shown: &mut Shown, view: ValueView<'_>) {
         ValueView::String(text) => shown.item(" string ", &text),
         ValueView::Boolean(value) => shown.item(" boolean ", &value),
         ValueView::Enum(name) => shown.item(" enum ", name),
-        ValueView::List(items) => {
-            shown.item(" list of ", &items.len());
-            shown.word(if items.is_empty() { ", empty" } else { "" });
-            write_item(shown, items.get(0));
-            write_item(shown, items.get(1));
-            shown.item("; ", &items.iter().len());
-            for item in items.iter() {
-                shown.item(" ", &item);
-            }
-        }
-        ValueView::Object(fields) => {
-            shown.item(" object of ", &fields.len());
-            shown.word(if fields.is_empty() { ", empty" } else { "" });
-            write_item(shown, fields.get(0).map(|field| field.1));
-            write_item(shown, fields.get(1).map(|field| field.1));
-            shown.item("; ", &fields.iter().len());
-            for (name, value) in fields.iter() {
-                shown.item(" ", name);
-                shown.item("=", &value);
-            }
-        }
+        ValueView::List(items) => write_list(shown, items),
+        ValueView::Object(fields) => write_object(shown, fields),
     }
+}
+
+// How many items a list has, the first two by their indices, and each in turn.
+fn write_list(shown: &mut Shown, items: ListView<'_>) {
+    write_count(shown, " list of ", items.len(), items.is_empty());
+    write_item(shown, items.get(0));
+    write_item(shown, items.get(1));
+    shown.item("; ", &items.iter().len());
+    for item in items.iter() {
+        shown.item(" ", &item);
+    }
+}
+
+// The same of the fields of an object.
+fn write_object(shown: &mut Shown, fields: ObjectView<'_>) {
+    write_count(shown, " object of ", fields.len(), fields.is_empty());
+    write_item(shown, fields.get(0).map(|field| field.1));
+    write_item(shown, fields.get(1).map(|field| field.1));
+    shown.item("; ", &fields.iter().len());
+    for (name, value) in fields.iter() {
+        shown.item(" ", name);
+        shown.item("=", &value);
+    }
+}
+
+fn write_count(shown: &mut Shown, before: &str, count: usize, is_empty: bool) {
+    shown.item(before, &count);
+    shown.word(if is_empty { ", empty" } else { "" });
 }
 
 fn write_item(shown: &mut Shown, item: Option<ValueView<'_>>) {

@@ -7,18 +7,19 @@ use graphql_memory::Memory;
 use graphql_reading::limits::Limits;
 use graphql_reading::parser::{Parser, Reading, Refusal};
 use graphql_tokens::lexer::Tokens;
-use rows::{Shown, pair};
+use rows::{Shown, number_in, pair};
 
 /// Writes what stands first in a text, arguments or else a value, where values may nest so deep as the call says, as `read 64`; and
 /// the place of the next token after it, or of the rejected one.
 pub fn write_read(shown: &mut Shown, what: &str, text: &str) {
     let (_, depth) = pair(what, "read ");
-    let Ok(depth) = depth.parse::<usize>() else {
-        return shown.word("no such call");
-    };
-    let Some(limits) = Limits::new(0, depth, 0) else {
-        return shown.word("a limit over 256");
-    };
+    match Limits::new(0, number_in(depth), 0) {
+        Some(limits) => write_within(shown, limits, text),
+        None => shown.word("no such limit"),
+    }
+}
+
+fn write_within(shown: &mut Shown, limits: Limits, text: &str) {
     let mut parser = Parser::new(Memory::new(shown.alloc()), Tokens::new(text));
     match write_first(shown, &mut parser, limits) {
         Ok(()) => shown.word("up to"),

@@ -110,6 +110,10 @@ pub fn write_comparison(shown: &mut Shown, row: &str) {
     let is_hashed = hash_of(&here) == hash_of(&one) && hash_of(&there) == hash_of(&other);
     shown.item(", hashed ", &is_hashed);
     write_node(shown, &here);
+    write_moved(shown, moved);
+}
+
+fn write_moved(shown: &mut Shown, moved: Positioned<u8>) {
     let place = moved.pos;
     shown.item(" ", &moved.into_inner());
     shown.item(" at ", &place);

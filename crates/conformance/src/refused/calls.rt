@@ -11,6 +11,7 @@ use graphql_parser::{
     parse_schema_from, parse_schema_limited,
 };
 use rows::{Row, Shown, narrow, pair, show, show_made};
+use std::alloc::AllocError;
 
 /// Makes a call that is given nothing but the text of its row.
 pub fn make_of_text(shown: &mut Shown, row: &Row<'_>) -> bool {
@@ -110,45 +111,60 @@ fn count(tokens: Tokens<'_>) -> usize {
 
 // A call that is given any other text.
 fn of_text(shown: &mut Shown, call: &str, text: &str) -> bool {
-    let alloc = shown.alloc();
     match call {
-        "string value" => show_found(shown, string_value(alloc, text)),
-        "block string value" => show_made(shown, block_string_value(alloc, text)),
-        "name" => show_made(shown, Name::new(alloc, text)),
-        "name cloned" => match Name::new(alloc, text) {
-            Ok(name) => show_made(shown, name.clone()),
-            Err(_) => false,
-        },
+        "string value" => show_found(shown, string_value(shown.alloc(), text)),
+        "block string value" => show_made(shown, block_string_value(shown.alloc(), text)),
         "places" => free::show_places(shown, text),
         "tokens" => free::show_tokens(shown, text),
+        _ => of_name(shown, call, text),
+    }
+}
+
+fn of_name(shown: &mut Shown, call: &str, text: &str) -> bool {
+    match call {
+        "name" => show_made(shown, Name::new(shown.alloc(), text)),
+        "name cloned" => show_cloned(shown, Name::new(shown.alloc(), text)),
         "number" | "number cloned" => of_number(shown, call, text),
-        "type" => show_found(shown, Type::new(alloc, text)),
+        "type" => show_found(shown, Type::new(shown.alloc(), text)),
         _ => of_type(shown, call, text),
+    }
+}
+
+fn show_cloned(shown: &mut Shown, name: Result<Name, AllocError>) -> bool {
+    match name {
+        Ok(name) => show_made(shown, name.clone()),
+        Err(_) => false,
     }
 }
 
 fn of_number(shown: &mut Shown, call: &str, text: &str) -> bool {
     match Number::new(shown.alloc(), text) {
         Ok(Some(number)) if call == "number cloned" => show_made(shown, number.clone()),
-        Ok(Some(number)) => {
-            shown.item("", &number);
-            show_option(shown, " ", number.as_i64());
-            show_option(shown, " ", number.as_u64());
-            true
-        }
+        Ok(Some(number)) => show_number(shown, &number),
         Ok(None) => show(shown, &"none"),
         Err(_) => false,
     }
 }
 
+fn show_number(shown: &mut Shown, number: &Number) -> bool {
+    shown.item("", number);
+    show_option(shown, " ", number.as_i64());
+    show_option(shown, " ", number.as_u64());
+    true
+}
+
 fn of_type(shown: &mut Shown, call: &str, text: &str) -> bool {
     match Type::new(shown.alloc(), text) {
-        Ok(Some(ty)) => match call {
-            "type cloned" => show_made(shown, ty.clone()),
-            "type as JSON" => show_json(shown, &ty),
-            _ => show(shown, &"no such call"),
-        },
+        Ok(Some(ty)) => show_type(shown, call, &ty),
         Ok(None) => show(shown, &"none"),
         Err(_) => false,
+    }
+}
+
+fn show_type(shown: &mut Shown, call: &str, ty: &Type) -> bool {
+    match call {
+        "type cloned" => show_made(shown, ty.clone()),
+        "type as JSON" => show_json(shown, ty),
+        _ => show(shown, &"no such call"),
     }
 }

@@ -4,7 +4,7 @@ use crate::compared::hash_of;
 use crate::trees::{Written, write_default_value, write_directives};
 use graphql_parser::lexer::Tokens;
 use graphql_parser::pos::PositionCalculator;
-use graphql_parser::types::{DocumentOperations, ExecutableDocument, SelectionSet};
+use graphql_parser::types::{DocumentOperations, ExecutableDocument, Field, SelectionSet};
 use graphql_parser::value::{ConstValue, Literal, Value};
 use graphql_parser::{Error, Limits, Pos, Positioned};
 use rows::Shown;
@@ -103,11 +103,7 @@ pub fn show_operations(shown: &mut Shown, document: &ExecutableDocument) {
 /// The key of the first field, its argument `b`, the operation `A`, the fragment `F`, and how many operations there are.
 pub fn show_found(shown: &mut Shown, document: &ExecutableDocument) {
     if let Some(field) = first_field(document) {
-        shown.item("", &field.response_key().node);
-        if let Some(value) = field.get_argument("b") {
-            shown.word(" b=");
-            value.node.write(shown);
-        }
+        show_field(shown, field);
     }
     if let Some(operation) = document.operations.get("A") {
         shown.item(" A@", &operation.pos);
@@ -119,6 +115,14 @@ pub fn show_found(shown: &mut Shown, document: &ExecutableDocument) {
         shown.item(" F@", &fragment.pos);
     }
     shown.item(" ", &document.operations.iter().len());
+}
+
+fn show_field(shown: &mut Shown, field: &Field) {
+    shown.item("", &field.response_key().node);
+    if let Some(value) = field.get_argument("b") {
+        shown.word(" b=");
+        value.node.write(shown);
+    }
 }
 
 /// The directives of the first selection, after each was put into line 7.

@@ -11,13 +11,13 @@ use graphql_parser::types::{
 };
 use graphql_parser::value::{ConstValue, Value};
 use graphql_parser::{Error, parse_query, parse_schema};
-use rows::{Input, Row, Shown, try_call};
-use std::alloc::{AllocError, Global};
+use rows::{Input, Row, Shown};
+use std::alloc::Global;
 
-// What a call is given besides the text of its row. A conversion lets its value go, so there is a copy for each time that the
-// call is made.
+/// What a call is given besides the text of its row. A conversion lets its value go, so there is a copy for each time that the
+/// call is made.
 #[derive(Drop)]
-enum Given {
+pub enum Given {
     Nothing,
     Request(ExecutableDocument),
     File(ServiceDocument),
@@ -43,61 +43,48 @@ impl Input for Given {
     }
 }
 
-/// Tries the call of a row. False where there is no memory for what it is given.
-pub fn try_row(shown: &mut Shown, row: &Row<'_>) -> bool {
-    match given_to(shown.alloc(), row) {
-        Some(given) => {
-            try_call(shown, row, given);
-            true
-        }
-        None => false,
-    }
-}
-
-// A text alone, a tree, a part of a request, or the error of a text that is none.
-fn given_to(alloc: Global, row: &Row<'_>) -> Option<Given> {
+/// A text alone, a tree, a part of a request, or the error of a text that is none; if there is memory for it.
+pub fn given_to(alloc: Global, row: &Row<'_>) -> Option<Given> {
     match row.kind {
         "text" | "query text" | "schema text" => Some(Given::Nothing),
         "schema tree" => Some(Given::File(parse_schema(alloc, row.text).ok()?)),
         "query tree" => Some(Given::Request(parse_query(alloc, row.text).ok()?)),
-        "error" => match parse_query(alloc, row.text) {
-            Ok(_) | Err(Error::OutOfMemory) => None,
-            Err(error) => Some(Given::Error(error)),
-        },
-        kind => part_of(
-            alloc,
-            kind,
-            row.times(),
-            &parse_query(alloc, row.text).ok()?,
-        ),
+        "error" => Some(Given::Error(error_of(alloc, row.text)?)),
+        _ => part_of(alloc, row, &parse_query(alloc, row.text).ok()?),
     }
 }
 
-// The first argument of the first field, or its first directive, so often.
-fn part_of(
-    alloc: Global,
-    kind: &str,
-    times: usize,
-    document: &ExecutableDocument,
-) -> Option<Given> {
-    let field = first_field(document)?;
-    match (field.arguments.first(), field.directives.first()) {
-        (Some(argument), _) if kind == "value" => {
-            Some(Given::Values(copies(alloc, &argument.1.node, times)?))
-        }
-        (Some(argument), _) => {
-            let constant = constant_of(alloc, &argument.1.node).ok()??;
-            Some(Given::Constants(copies(alloc, &constant, times)?))
-        }
-        (_, Some(directive)) if kind == "directive" => {
-            Some(Given::Directives(copies(alloc, &directive.node, times)?))
-        }
-        (_, Some(directive)) => {
-            let constant = constant_directive(alloc, &directive.node).ok()??;
-            Some(Given::ConstantDirectives(copies(alloc, &constant, times)?))
-        }
-        _ => None,
+fn error_of(alloc: Global, text: &str) -> Option<Error> {
+    match parse_query(alloc, text) {
+        Ok(_) | Err(Error::OutOfMemory) => None,
+        Err(error) => Some(error),
     }
+}
+
+// The first argument of the first field, or its first directive, as often as the call is made.
+fn part_of(alloc: Global, row: &Row<'_>, document: &ExecutableDocument) -> Option<Given> {
+    let field = first_field(document)?;
+    if let Some(argument) = field.arguments.first() {
+        values_of(alloc, row, &argument.1.node)
+    } else {
+        directives_of(alloc, row, &field.directives.first()?.node)
+    }
+}
+
+fn values_of(alloc: Global, row: &Row<'_>, value: &Value) -> Option<Given> {
+    if row.kind == "value" {
+        return Some(Given::Values(copies(alloc, value, row.times())?));
+    }
+    let constant = constant_of(alloc, value).ok()??;
+    Some(Given::Constants(copies(alloc, &constant, row.times())?))
+}
+
+fn directives_of(alloc: Global, row: &Row<'_>, directive: &Directive) -> Option<Given> {
+    if row.kind == "directive" {
+        return Some(Given::Directives(copies(alloc, directive, row.times())?));
+    }
+    let constant = constant_directive(alloc, directive).ok()??;
+    Some(Given::ConstantDirectives(copies(alloc, &constant, row.times())?))
 }
 
 fn copies<T: Clone + Drop>(alloc: Global, item: &T, times: usize) -> Option<Vec<T>> {

@@ -4,8 +4,8 @@ use crate::trees::values::Written;
 use graphql_syntax::pos::Positioned;
 use graphql_syntax::value::Name;
 use graphql_trees::{
-    DirectiveDefinition, FieldDefinition, InputValueDefinition, SchemaDefinition, ServiceDocument,
-    TypeDefinition, TypeKind, TypeSystemDefinition,
+    DirectiveDefinition, EnumValueDefinition, FieldDefinition, InputValueDefinition,
+    SchemaDefinition, ServiceDocument, TypeDefinition, TypeKind, TypeSystemDefinition,
 };
 use rows::Shown;
 
@@ -87,16 +87,18 @@ fn write_kind(shown: &mut Shown, kind: &TypeKind) {
             write_fields(shown, &interface.fields);
         }
         TypeKind::Union(members) => write_names(shown, " members", &members.members),
-        TypeKind::Enum(values) => {
-            for value in &values.values {
-                shown.place(" (value ", &value.pos);
-                write_description(shown, &value.node.description);
-                write_node(shown, " ", &value.node.value);
-                write_directives(shown, &value.node.directives);
-                shown.word(")");
-            }
-        }
+        TypeKind::Enum(values) => write_values(shown, &values.values),
         TypeKind::InputObject(input) => write_input_values(shown, &input.fields),
+    }
+}
+
+fn write_values(shown: &mut Shown, values: &Vec<Positioned<EnumValueDefinition>>) {
+    for value in values {
+        shown.place(" (value ", &value.pos);
+        write_description(shown, &value.node.description);
+        write_node(shown, " ", &value.node.value);
+        write_directives(shown, &value.node.directives);
+        shown.word(")");
     }
 }
 

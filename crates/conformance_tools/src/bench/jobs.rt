@@ -2,16 +2,17 @@
 use super::digest::Digest;
 use super::texts::{Text, Way, read_texts};
 use super::walks::{add_request, add_schema};
+use crate::rewritten::{Rewriting, rewritten};
 use graphql_json::{Places, request_json, schema_json};
 use graphql_packed::{packed_request, packed_schema};
 use graphql_parser::lexer::Tokens;
+use graphql_parser::types::{ExecutableDocument, ServiceDocument};
 use graphql_parser::{
     Limits, Result as Answer, check_query, check_schema, parse_query, parse_schema,
 };
-use graphql_printer::{
-    format_query, format_schema, minify_query, minify_schema, print_query, print_schema,
-};
+use graphql_printer::{print_query, print_schema};
 use graphql_report::{Language, explain};
+use rows::Parser;
 use std::alloc::{AllocError, Global};
 
 /// Changes all texts of a file and reads them, in this many rounds. Returns the digest of all answers.
@@ -87,41 +88,50 @@ fn report(alloc: Global, language: Language, text: &str, digest: &mut Digest) {
 fn give(alloc: Global, language: Language, text: &str, digest: &mut Digest) {
     match language {
         Language::Requests => match parse_query(alloc, text) {
-            Ok(document) => {
-                add_bytes(request_json(alloc, &document, Places::Written), digest);
-                add_bytes(packed_request(alloc, &document), digest);
-            }
+            Ok(document) => give_request(alloc, &document, digest),
             Err(error) => digest.add_error(&error),
         },
         Language::Schemas => match parse_schema(alloc, text) {
-            Ok(document) => {
-                add_bytes(schema_json(alloc, &document, Places::LeftOut), digest);
-                add_bytes(packed_schema(alloc, &document), digest);
-            }
+            Ok(document) => give_file(alloc, &document, digest),
             Err(error) => digest.add_error(&error),
         },
     }
 }
 
+fn give_request(alloc: Global, document: &ExecutableDocument, digest: &mut Digest) {
+    add_bytes(request_json(alloc, document, Places::Written), digest);
+    add_bytes(packed_request(alloc, document), digest);
+}
+
+fn give_file(alloc: Global, document: &ServiceDocument, digest: &mut Digest) {
+    add_bytes(schema_json(alloc, document, Places::LeftOut), digest);
+    add_bytes(packed_schema(alloc, document), digest);
+}
+
 fn write(alloc: Global, language: Language, text: &str, digest: &mut Digest) {
-    let limits = Limits::default();
+    let parser = match language {
+        Language::Requests => Parser::Query,
+        Language::Schemas => Parser::Schema,
+    };
+    for rewriting in [Rewriting::Formatted, Rewriting::Minified] {
+        match rewritten(alloc, rewriting, parser, text, Limits::default()) {
+            Ok(text) => digest.add_text(text.as_str()),
+            Err(error) => digest.add_error(&error),
+        }
+    }
+    print(alloc, language, text, digest);
+}
+
+fn print(alloc: Global, language: Language, text: &str, digest: &mut Digest) {
     match language {
-        Language::Requests => {
-            add_written(format_query(alloc, text, limits), digest);
-            add_written(minify_query(alloc, text, limits), digest);
-            match parse_query(alloc, text) {
-                Ok(document) => add_text(print_query(alloc, &document), digest),
-                Err(error) => digest.add_error(&error),
-            }
-        }
-        Language::Schemas => {
-            add_written(format_schema(alloc, text, limits), digest);
-            add_written(minify_schema(alloc, text, limits), digest);
-            match parse_schema(alloc, text) {
-                Ok(document) => add_text(print_schema(alloc, &document), digest),
-                Err(error) => digest.add_error(&error),
-            }
-        }
+        Language::Requests => match parse_query(alloc, text) {
+            Ok(document) => add_text(print_query(alloc, &document), digest),
+            Err(error) => digest.add_error(&error),
+        },
+        Language::Schemas => match parse_schema(alloc, text) {
+            Ok(document) => add_text(print_schema(alloc, &document), digest),
+            Err(error) => digest.add_error(&error),
+        },
     }
 }
 
@@ -136,13 +146,6 @@ fn add_text(given: Result<String, AllocError>, digest: &mut Digest) {
     match given {
         Ok(text) => digest.add_text(text.as_str()),
         Err(_) => digest.add(78),
-    }
-}
-
-fn add_written(written: Answer<String>, digest: &mut Digest) {
-    match written {
-        Ok(text) => digest.add_text(text.as_str()),
-        Err(error) => digest.add_error(&error),
     }
 }
 

@@ -1,10 +1,9 @@
 //! What is timed with one text.
+use crate::rewritten::{Rewriting, rewritten};
 use graphql_parser::lexer::Tokens;
 use graphql_parser::types::{ExecutableDocument, ServiceDocument};
-use graphql_parser::{Limits, Memory, check_query, check_schema, parse_query, parse_schema};
-use graphql_printer::{
-    format_query, format_schema, minify_query, minify_schema, print_query, print_schema,
-};
+use graphql_parser::{Limits, Memory, parse_query, parse_schema};
+use graphql_printer::{print_query, print_schema};
 use rows::{Parser, refused_within};
 use std::alloc::Global;
 use std::io;
@@ -18,32 +17,31 @@ const BYTES: usize = 10_000_000;
 #[derive(Clone, Copy)]
 pub enum Mode {
     Tokens,
-    Query,
-    Schema,
-    Check,
-    CheckSchema,
-    Format,
-    FormatSchema,
-    Minify,
-    MinifySchema,
-    Print,
-    PrintSchema,
+    Read(Parser),
+    Check(Parser),
+    Write(Rewriting, Parser),
+    Print(Parser),
 }
 
 /// The mode that a word names.
 pub fn mode_named(word: &str) -> Option<Mode> {
     match word {
         "tokens" => Some(Mode::Tokens),
-        "query" => Some(Mode::Query),
-        "schema" => Some(Mode::Schema),
-        "check" => Some(Mode::Check),
-        "check-schema" => Some(Mode::CheckSchema),
-        "format" => Some(Mode::Format),
-        "format-schema" => Some(Mode::FormatSchema),
-        "minify" => Some(Mode::Minify),
-        "minify-schema" => Some(Mode::MinifySchema),
-        "print" => Some(Mode::Print),
-        "print-schema" => Some(Mode::PrintSchema),
+        "query" => Some(Mode::Read(Parser::Query)),
+        "schema" => Some(Mode::Read(Parser::Schema)),
+        _ => match word.strip_suffix("-schema") {
+            Some(word) => mode_of(word, Parser::Schema),
+            None => mode_of(word, Parser::Query),
+        },
+    }
+}
+
+fn mode_of(word: &str, parser: Parser) -> Option<Mode> {
+    match word {
+        "check" => Some(Mode::Check(parser)),
+        "format" => Some(Mode::Write(Rewriting::Formatted, parser)),
+        "minify" => Some(Mode::Write(Rewriting::Minified, parser)),
+        "print" => Some(Mode::Print(parser)),
         _ => None,
     }
 }
@@ -59,10 +57,8 @@ fn told(is_accepted: bool) -> &'static str {
 /// Prints what a mode takes of a budget, and nothing for a mode without one.
 pub fn count_memory(rt: &HostRuntime, mode: Mode, text: &str) -> io::Result<()> {
     let (parser, is_check) = match mode {
-        Mode::Query => (Parser::Query, false),
-        Mode::Schema => (Parser::Schema, false),
-        Mode::Check => (Parser::Query, true),
-        Mode::CheckSchema => (Parser::Schema, true),
+        Mode::Read(parser) => (parser, false),
+        Mode::Check(parser) => (parser, true),
         _ => return Ok(()),
     };
     let mut memory = Memory::new(rt.alloc());
@@ -93,12 +89,12 @@ enum Tree<'a> {
 /// Does what a mode asks for in rounds, and prints the time of each.
 pub fn time(rt: &HostRuntime, mode: Mode, text: &str) -> io::Result<()> {
     match mode {
-        Mode::Print => {
+        Mode::Print(Parser::Query) => {
             if let Ok(document) = &parse_query(rt.alloc(), text) {
                 return time_rounds(rt, mode, Tree::Request(document), text);
             }
         }
-        Mode::PrintSchema => {
+        Mode::Print(Parser::Schema) => {
             if let Ok(document) = &parse_schema(rt.alloc(), text) {
                 return time_rounds(rt, mode, Tree::File(document), text);
             }
@@ -113,17 +109,9 @@ fn time_rounds(rt: &HostRuntime, mode: Mode, tree: Tree<'_>, text: &str) -> io::
     for _ in 0..rounds(text) {
         let start = Instant::now(rt)?;
         let seen = see(mode, tree, rt.alloc(), text);
-        let time = start.elapsed(rt)?.as_nanos();
-        match seen {
-            Seen::Tokens { count, mixed } => {
-                all ^= mixed;
-                println!(rt; "lex {time} {count}")?;
-            }
-            Seen::Verdict(is_accepted) => {
-                let answer = told(is_accepted);
-                println!(rt; "parse {time} {answer}")?;
-            }
-            Seen::Written(length) => println!(rt; "write {time} {length}")?,
+        print_seen(rt, start.elapsed(rt)?.as_nanos(), seen)?;
+        if let Seen::Tokens { mixed, .. } = seen {
+            all ^= mixed;
         }
     }
     // What was seen of tokens is used, so that no round can be left out.
@@ -133,21 +121,33 @@ fn time_rounds(rt: &HostRuntime, mode: Mode, tree: Tree<'_>, text: &str) -> io::
     }
 }
 
+fn print_seen(rt: &HostRuntime, time: u128, seen: Seen) -> io::Result<()> {
+    match seen {
+        Seen::Tokens { count, .. } => println!(rt; "lex {time} {count}"),
+        Seen::Verdict(is_accepted) => {
+            let answer = told(is_accepted);
+            println!(rt; "parse {time} {answer}")
+        }
+        Seen::Written(length) => println!(rt; "write {time} {length}"),
+    }
+}
+
 // One round. What is made is dropped.
 fn see(mode: Mode, tree: Tree<'_>, alloc: Global, text: &str) -> Seen {
-    let limits = Limits::default();
     match mode {
         Mode::Tokens => look_over(text),
-        Mode::Query => Seen::Verdict(parse_query(alloc, text).is_ok()),
-        Mode::Schema => Seen::Verdict(parse_schema(alloc, text).is_ok()),
-        Mode::Check => Seen::Verdict(check_query(alloc, text).is_ok()),
-        Mode::CheckSchema => Seen::Verdict(check_schema(alloc, text).is_ok()),
-        Mode::Format => length(format_query(alloc, text, limits)),
-        Mode::FormatSchema => length(format_schema(alloc, text, limits)),
-        Mode::Minify => length(minify_query(alloc, text, limits)),
-        Mode::MinifySchema => length(minify_schema(alloc, text, limits)),
-        Mode::Print | Mode::PrintSchema => print(tree, alloc),
+        Mode::Read(parser) => read(alloc, parser, false, text),
+        Mode::Check(parser) => read(alloc, parser, true, text),
+        Mode::Write(rewriting, parser) => {
+            length(rewritten(alloc, rewriting, parser, text, Limits::default()))
+        }
+        Mode::Print(_) => print(tree, alloc),
     }
+}
+
+fn read(alloc: Global, parser: Parser, is_check: bool, text: &str) -> Seen {
+    let error = refused_within(&mut Memory::new(alloc), parser, is_check, text);
+    Seen::Verdict(error.is_none())
 }
 
 fn print(tree: Tree<'_>, alloc: Global) -> Seen {

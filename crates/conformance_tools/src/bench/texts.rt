@@ -1,7 +1,8 @@
 //! The texts that `bench/make_texts.py` makes, in which letters of names change.
 use crate::random::Random;
 use graphql_report::Language;
-use std::alloc::AllocError;
+use rows::{number_in, pair};
+use std::alloc::{AllocError, Global};
 use std::str;
 
 // How many letters change at a mark.
@@ -77,29 +78,43 @@ fn read_text<'a>(
     rest: &'a str,
     texts: &mut Vec<Text>,
 ) -> Result<Option<&'a str>, AllocError> {
-    let alloc = *texts.allocator();
-    let mut words = head.split(' ');
-    let way = way_named(words.next().unwrap_or(""));
-    let language = match words.next() {
-        Some("schema") => Language::Schemas,
+    let (way, head) = pair(head, " ");
+    let (language, head) = pair(head, " ");
+    let (length, marks) = head.split_once(' ').unwrap_or((head, ""));
+    match (way_named(way), rest.split_at_checked(number_in(length))) {
+        (Some(way), Some((text, after))) => {
+            let language = language_named(language);
+            texts.push(text_of(*texts.allocator(), way, language, text, marks)?)?;
+            Ok(Some(after))
+        }
+        _ => Ok(None),
+    }
+}
+
+fn language_named(word: &str) -> Language {
+    match word {
+        "schema" => Language::Schemas,
         _ => Language::Requests,
-    };
-    let length = words.next().unwrap_or("").parse::<usize>().unwrap_or(0);
-    let (Some(way), Some((text, after))) = (way, rest.split_at_checked(length)) else {
-        return Ok(None);
-    };
-    texts.push(Text {
+    }
+}
+
+fn text_of(
+    alloc: Global,
+    way: Way,
+    language: Language,
+    text: &str,
+    words: &str,
+) -> Result<Text, AllocError> {
+    let mut marks = Vec::new(alloc);
+    for word in words.split_whitespace() {
+        marks.push(number_in(word))?;
+    }
+    Ok(Text {
         way,
         language,
         bytes: Vec::from_slice(alloc, text.as_bytes())?,
-        marks: Vec::new(alloc),
-    })?;
-    if let Some(text) = texts.last_mut() {
-        for word in words {
-            text.marks.push(word.parse::<usize>().unwrap_or(0))?;
-        }
-    }
-    Ok(Some(after))
+        marks,
+    })
 }
 
 fn way_named(word: &str) -> Option<Way> {
@@ -108,6 +123,12 @@ fn way_named(word: &str) -> Option<Way> {
         "check" => Some(Way::Check),
         "give" => Some(Way::Give),
         "explain" => Some(Way::Explain),
+        _ => other_way_named(word),
+    }
+}
+
+fn other_way_named(word: &str) -> Option<Way> {
+    match word {
         "write" => Some(Way::Write),
         "cut" => Some(Way::Cut),
         "edit" => Some(Way::Edit),

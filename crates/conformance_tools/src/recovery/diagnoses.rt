@@ -97,13 +97,16 @@ fn write_mended(shown: &mut Shown, language: Language, text: &str, fix: &Fix) {
     new.word(fix.new.as_str());
     new.word(text.get(fix.span.end..).unwrap_or("outside"));
     let new = new.whole().unwrap_or("out of memory");
-    match diagnoses_of(shown.alloc(), language, new, Limits::default()) {
+    write_count(shown, language, new);
+    shown.item(" ", &fix.title);
+    shown.item(": ", &new);
+}
+
+fn write_count(shown: &mut Shown, language: Language, text: &str) {
+    match diagnoses_of(shown.alloc(), language, text, Limits::default()) {
         Ok(left) => shown.item(" ", &left.len()),
         Err(_) => shown.leave_out(),
     }
-    shown.item(" ", &fix.title);
-    shown.word(": ");
-    shown.word(new);
 }
 
 fn write_diagnosis(shown: &mut Shown, language: Language, text: &str, diagnosis: &Diagnosis) {
@@ -111,18 +114,26 @@ fn write_diagnosis(shown: &mut Shown, language: Language, text: &str, diagnosis:
     shown.word(diagnosis.status);
     let missing = missing_of(shown, language, text, diagnosis);
     if let Some(other) = other_of(text, diagnosis, missing.as_ref()) {
-        shown.word(" (");
-        write_span(shown, text, other.span);
-        shown.word(other.message);
-        shown.word(")");
+        write_other(shown, text, other);
     }
     if let Some(fix) = fix_of(shown, text, diagnosis, missing.as_ref()) {
-        shown.item(" [", &fix.title);
-        shown.item(": ", &fix.span.start);
-        shown.item("-", &fix.span.end);
-        shown.item(" \"", &fix.new);
-        shown.word("\"]");
+        write_fix(shown, &fix);
     }
+}
+
+fn write_other(shown: &mut Shown, text: &str, other: Other) {
+    shown.word(" (");
+    write_span(shown, text, other.span);
+    shown.word(other.message);
+    shown.word(")");
+}
+
+fn write_fix(shown: &mut Shown, fix: &Fix) {
+    shown.item(" [", &fix.title);
+    shown.item(": ", &fix.span.start);
+    shown.item("-", &fix.span.end);
+    shown.item(" \"", &fix.new);
+    shown.word("\"]");
 }
 
 // Writes between which offsets something stands, and what that is.
