@@ -3,7 +3,7 @@ use rows::{Shown, number_in, pair};
 use std::alloc::{AllocError, Global};
 use std::fmt::Debug;
 use text_edits::{
-    Document, Encoding, LineIndex, Position, Range, apply, offset_of, position_of, replace,
+    Document, Encoding, LineIndex, Pieces, Position, Range, apply, offset_of, position_of, replace,
 };
 
 /// Writes what is asked of a text, with the name of the encoding after it where that matters. Before the text stands, with ` in `
@@ -16,20 +16,17 @@ use text_edits::{
 pub fn write_answer(shown: &mut Shown, what: &str, row: &str) {
     let (asked, text) = pair(row, " in ");
     let (what, encoding) = pair(what, " ");
-    match encoding_named(encoding) {
-        Some(encoding) if what == "applied" => write_applied(shown, asked, encoding, text),
-        Some(encoding) => write_place(shown, asked, encoding, text),
-        None if encoding == "replaced" => write_replaced(shown, asked, text),
-        None => shown.word("no such encoding"),
-    }
-}
-
-fn encoding_named(word: &str) -> Option<Encoding> {
-    match word {
-        "utf-8" => Some(Encoding::Utf8),
-        "utf-16" => Some(Encoding::Utf16),
-        "utf-32" => Some(Encoding::Utf32),
-        _ => None,
+    let encoding = match encoding {
+        "utf-8" => Encoding::Utf8,
+        "utf-16" => Encoding::Utf16,
+        "utf-32" => Encoding::Utf32,
+        "replaced" => return write_replaced(shown, asked, text),
+        _ => return shown.word("no such encoding"),
+    };
+    match what {
+        "offset" | "position" => write_place(shown, asked, encoding, text),
+        "applied" => write_applied(shown, asked, encoding, text),
+        _ => shown.word("nothing to ask"),
     }
 }
 
@@ -58,26 +55,25 @@ fn write_place(shown: &mut Shown, asked: &str, encoding: Encoding, text: &str) {
         let found = offset_of(text, encoding, position);
         let by_index = index.offset_of(text, encoding, position);
         shown.item("", &found);
-        let of_document = document.offset_of(encoding, position);
-        write_others(shown, found, by_index, of_document);
+        write_others(
+            shown,
+            found,
+            by_index,
+            document.offset_of(encoding, position),
+        );
     } else {
-        write_position(shown, number_in(asked), encoding, &index, &document);
+        let offset = number_in(asked);
+        let found = position_of(text, encoding, offset);
+        let by_index = index.position_of(text, encoding, offset);
+        shown.item("", &found.line);
+        shown.item(":", &found.character);
+        write_others(
+            shown,
+            found,
+            by_index,
+            document.position_of(encoding, offset),
+        );
     }
-}
-
-fn write_position(
-    shown: &mut Shown,
-    offset: usize,
-    encoding: Encoding,
-    index: &LineIndex,
-    document: &Document,
-) {
-    let found = position_of(document.text(), encoding, offset);
-    let by_index = index.position_of(document.text(), encoding, offset);
-    shown.item("", &found.line);
-    shown.item(":", &found.character);
-    let of_document = document.position_of(encoding, offset);
-    write_others(shown, found, by_index, of_document);
 }
 
 // Writes what the index of a text and a document of it have, unless that is what the text has.
@@ -93,6 +89,8 @@ fn write_others<T: Copy + PartialEq + Debug>(
     }
 }
 
+// Writes the text with something else in a range, and what a document of it, and it in pieces, become, if that is another text or has other
+// positions.
 fn write_applied(shown: &mut Shown, asked: &str, encoding: Encoding, text: &str) {
     let (start, asked) = pair(asked, " ");
     let (end, new) = pair(asked, " ");
@@ -100,34 +98,42 @@ fn write_applied(shown: &mut Shown, asked: &str, encoding: Encoding, text: &str)
         start: position_in(start),
         end: position_in(end),
     };
-    write_changed(shown, range, new, encoding, text);
-}
-
-// Writes the text with something else in a range, and what a document of it becomes, if that is another text or has other positions.
-fn write_changed(shown: &mut Shown, range: Range, new: &str, encoding: Encoding, text: &str) {
     let alloc = shown.alloc();
-    let (Ok(mut document), Ok(found)) = (
+    let (Ok(mut document), Ok(found), Ok(of_pieces)) = (
         document_of(alloc, text),
         apply(alloc, text, encoding, range, new),
+        changed_in_pieces(alloc, encoding, range, new, text),
     ) else {
         return shown.leave_out();
     };
     if document.apply(alloc, encoding, range, new).is_err() {
         shown.leave_out();
     }
-    write_document(shown, found.as_str(), encoding, &document);
-}
-
-fn write_document(shown: &mut Shown, text: &str, encoding: Encoding, document: &Document) {
-    shown.item("'", &text);
-    if text != document.text() {
+    shown.item("'", &found);
+    if found.as_str() != document.text() {
         shown.item("', of a document '", &document.text());
     }
+    if found.as_str() != of_pieces.text() {
+        shown.item("', of pieces '", &of_pieces.text());
+    }
     shown.word("'");
-    for offset in 0..=text.len() {
-        let place = position_of(text, encoding, offset);
+    for offset in 0..=found.len() {
+        let place = position_of(&found, encoding, offset);
         write_others(shown, place, place, document.position_of(encoding, offset));
     }
+}
+
+// The text with something else in a range, changed in pieces.
+fn changed_in_pieces(
+    alloc: Global,
+    encoding: Encoding,
+    range: Range,
+    new: &str,
+    text: &str,
+) -> Result<Document, AllocError> {
+    let mut pieces = Pieces::new(alloc, text)?;
+    pieces.apply(alloc, encoding, range, new)?;
+    pieces.into_document(alloc)
 }
 
 fn write_replaced(shown: &mut Shown, asked: &str, text: &str) {
