@@ -668,8 +668,12 @@ def try_costs(program, rounds=50):
     outline = middle(lambda each: [message(id=1, method="textDocument/documentSymbol", params=asked)])
     queued, number = cost(*[change(each, key(each)) for each in range(100)])
     lines = [line for line, each in enumerate(text.split("\n")) if each][:1000]
-    upwards, _ = cost(change(1, *[ranged((line, 0), (line, 0), " ") for line in reversed(lines)]))
-    downwards, _ = cost(change(2, *[ranged((line, 0), (line, 1), "") for line in lines]))
+    spent = []
+    for each in range(rounds // 5):
+        upwards, _ = cost(change(2 * each + 1, *[ranged((line, 0), (line, 0), " ") for line in reversed(lines)]))
+        downwards, _ = cost(change(2 * each + 2, *[ranged((line, 0), (line, 1), "") for line in lines]))
+        spent.append((upwards, downwards))
+    upwards, downwards = map(statistics.median, zip(*spent))
     print(f"costs: a key stroke {stroke * 1000:.2f} ms of the processor, an outline {outline / stroke:.1f} key strokes (wanted: 2), "
           f"100 queued changes {queued / stroke:.1f}, {len(lines)} changes of a notification {upwards / stroke:.1f} from the last line to the "
           f"first, {downwards / stroke:.1f} the other way (wanted: 3)")

@@ -1,6 +1,6 @@
 //! The texts that are open, and how changes change them (Language Server Protocol 3.17, "Text Document Synchronization").
 
-ghost use Rattle.std.specs.Prelude.{◌≡◌, ◌↔◌, ◌<◌, IfSome, IsTrue, OnOk, length};
+ghost use Rattle.std.specs.Prelude.{◌≡◌, ◌<◌, IfSome, IsTrue, OnOk, length};
 ghost use Rattle.text_edits.specs.Positions.{IsPosition};
 ghost use Rattle.graphql_server.specs.Changes.{AreChanged, IsChanged};
 ghost use Rattle.graphql_server.specs.Ranges.{IsRange};
@@ -118,7 +118,8 @@ fn change_many(
     let mut clipped = 0usize;
     for change in changes {
         if let Some(Range { start, end }) = change.range
-            && !(is_known_in(&pieces, encoding, start) && is_known_in(&pieces, encoding, end))
+            && !(is_known_in(&pieces, encoding, start)
+                && (end == start || is_known_in(&pieces, encoding, end)))
         {
             clipped = clipped.saturating_add(1);
         }
@@ -166,30 +167,19 @@ fn change_by(
     }
 }
 
-/// Whether a position is one of the text: on a line that it has, and not beyond its end, nor inside of a character.
-pub fn is_position(document: &Document, encoding: Encoding, position: Position) -> bool
-    ensures { IsTrue result ↔ IsPosition encoding document.now position }
-{
-    document.position_of(encoding, document.offset_of(encoding, position)) == position
-}
-
 /// Whether a position is one of the text, or is beyond the end of a line, which is what it means then (Language Server Protocol 3.17,
 /// "Position").
 pub fn is_known(document: &Document, encoding: Encoding, position: Position) -> bool
     ensures { IsPosition encoding document.now position → IsTrue result }
 {
-    let end = document.position_of(
-        encoding,
-        document.offset_of(
-            encoding,
-            Position {
-                line: position.line,
-                character: usize::MAX,
-            },
-        ),
-    );
-    let is_beyond = end.line == position.line && end.character <= position.character;
-    is_beyond || is_position(document, encoding, position)
+    let offset = document.offset_of(encoding, position);
+    let found = document.position_of(encoding, offset);
+    found == position || (found.line == position.line && is_line_end(document.text(), offset))
+}
+
+// Whether a line of the text, or the text, ends at this offset.
+fn is_line_end(text: &str, offset: usize) -> bool {
+    matches!(text.as_bytes().get(offset), None | Some(b'\n' | b'\r'))
 }
 
 // The same of a text in pieces: that of the position in its piece.
